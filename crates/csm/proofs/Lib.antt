@@ -1,0 +1,12 @@
+pub mod Examples
+pub mod TextLaws
+pub mod FormatLaws
+pub mod NumberLaws
+pub mod FieldLaws
+pub mod MessageLaws
+pub mod CharLaws
+pub mod LengthLaws
+pub mod CoveredLaws
+pub mod Claims
+pub mod WordTests
+pub mod KdTest

@@ -1,0 +1,11 @@
+pub mod Xor
+pub mod Linear
+pub mod Permutations
+pub mod Laws
+pub mod Parity
+pub mod Picks
+pub mod Substitution
+pub mod Exchanges
+pub mod Walks
+pub mod Blocks
+pub mod Vectors

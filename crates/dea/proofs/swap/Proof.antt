@@ -1,0 +1,18 @@
+-- The definition, step by step.
+use Rattle.dea.specs.Words.{exchange}
+use borrow.Author.Needs.{needs}
+use Rattle.dea.proofs.swap.Statement.{statement}
+use Rattle.dea.proofs.swap.Tie as tie
+
+shr-t : tie.Need-shr-t
+shr-t c = search needs
+
+shl-result : tie.Need-shl-result
+shl-result c = search needs
+
+returns : tie.Need-returns
+unfolding exchange
+returns c = search needs
+
+pub swap-spec : {M : Type 1} → statement M
+swap-spec = tie.close (tie.spec shr-t shl-result returns)

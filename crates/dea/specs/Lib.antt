@@ -1,0 +1,5 @@
+pub mod Tables
+pub mod Dea
+pub mod Chain
+pub mod Claims
+pub mod Words

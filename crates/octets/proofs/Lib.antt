@@ -1,0 +1,4 @@
+pub mod Comparing
+pub mod Parting
+pub mod Writing
+pub mod Numbers

@@ -1,0 +1,20 @@
+-- Parts of a text, and texts that are bytes.
+use mathlib.Core.Bool.{Bool, cond}
+use mathlib.Core.List.{[], _∷_}
+use Prim.Native.Nat.{ℕ, zero, suc}
+use lib.Dec.{eqb, ltb}
+use lib.ListN.{take}
+use Rattle.octets.specs.Text.{Text, blank, all}
+
+-- how many bytes stand before the first x: all of them where there is none
+abbrev pub before : ℕ → Text → ℕ
+before x [] = zero
+before x (y ∷ s) = cond (eqb y x) zero (suc (before x s))
+
+-- what stands before the first blank
+abbrev pub bare : Text → Text
+bare s = take (before blank s) s
+
+-- every element is a byte
+abbrev pub all-octets : Text → Bool
+all-octets s = all (λ b. ltb b 256) s

@@ -1,0 +1,184 @@
+// Leaves over lent bytes: compare, find, copy to the front of a lent rest, numbers high byte first.
+ghost use mathlib.Core.Path.{_≡_};
+ghost use Prim.Native.Nat.{_+_, _/_, _%_, _^_, min};
+ghost use lib.ListN.{length, drop};
+ghost use Rattle.octets.specs.Text as text;
+ghost use Rattle.octets.specs.Part as part;
+ghost use Rattle.octets.specs.Number as numbers;
+ghost use Rattle.octets.specs.Wrote as wrote;
+
+// Whether the two are one text.
+pub fn same(a: &[u8], b: &[u8]) -> bool
+    ensures { λ r. ⌜ r ≡ text.same (now (a .entry)) (now (b .entry)) ⌝ }
+{
+    if a.len() != b.len() {
+        return false;
+    }
+    let mut i = 0;
+    while i < a.len() {
+        if a[i] != b[i] {
+            return false;
+        }
+        i += 1;
+    }
+    true
+}
+
+// Whether w stands in s from `at` on.
+pub fn starts(s: &[u8], at: usize, w: &[u8]) -> bool
+    ensures { λ r. ⌜ r ≡ text.starts (now (w .entry)) (drop at (now (s .entry))) ⌝ }
+{
+    let mut i = 0;
+    let mut j = at;
+    while i < w.len() {
+        if s.len() <= j {
+            return false;
+        }
+        if s[j] != w[i] {
+            return false;
+        }
+        i += 1;
+        j += 1;
+    }
+    true
+}
+
+// Whether b is a digit, or a capital up to top.
+fn run_char(top: u8, b: u8) -> bool
+    ensures { λ r. ⌜ r ≡ text.run-char top b ⌝ }
+{
+    if b < b'0' {
+        return false;
+    }
+    if b <= b'9' {
+        return true;
+    }
+    if b < b'A' {
+        return false;
+    }
+    b <= top
+}
+
+// Whether s is low to high digits and capitals up to top.
+pub fn is_run(s: &[u8], top: u8, low: usize, high: usize) -> bool
+    ensures { λ r. ⌜ r ≡ text.is-run top low high (now (s .entry)) ⌝ }
+{
+    let mut i = 0;
+    while i < s.len() {
+        if !run_char(top, s[i]) {
+            return false;
+        }
+        i += 1;
+    }
+    if s.len() < low {
+        return false;
+    }
+    s.len() <= high
+}
+
+// Whether s is an identity or a key name.
+pub fn is_name(s: &[u8]) -> bool
+    ensures { λ r. ⌜ r ≡ text.is-name (now (s .entry)) ⌝ }
+{
+    is_run(s, b'Z', 1, 16)
+}
+
+// Where the next x stands in s from `at` on: the end where there is none.
+pub fn until(s: &[u8], at: usize, x: u8) -> usize
+    ensures { λ r. ⌜ r ≡ at + part.before x (drop at (now (s .entry))) ⌝ }
+{
+    let mut i = at;
+    while i < s.len() {
+        if s[i] == x {
+            return i;
+        }
+        i += 1;
+    }
+    i
+}
+
+// What stands in s before the first blank.
+pub fn bare(s: &[u8]) -> &[u8]
+    ensures { λ r. ⌜ now r ≡ part.bare (now (s .entry)) ⌝ }
+{
+    let n = until(s, 0, b' ');
+    &s[..n]
+}
+
+// The smaller of the two.
+fn smaller(a: usize, b: usize) -> usize
+    ensures { λ r. ⌜ r ≡ min a b ⌝ }
+{
+    if a <= b {
+        return a;
+    }
+    b
+}
+
+// As much of src as there is room for, over the front of rest; how many bytes that is.
+pub fn copy(rest: &mut [u8], src: &[u8]) -> usize
+    ensures { λ r. ⌜ now (rest .exit) ≡ wrote.over (now (src .entry)) (now (rest .entry)) ⌝ }
+    ensures { λ r. ⌜ r ≡ min (length (now (src .entry))) (length (now (rest .entry))) ⌝ }
+{
+    let n = smaller(src.len(), rest.len());
+    let mut copied = 0;
+    while copied < n {
+        rest[copied] = src[copied];
+        copied += 1;
+    }
+    copied
+}
+
+// The byte b, k times or as often as there is room for, over the front of rest; how many bytes that is.
+pub fn fill(rest: &mut [u8], k: usize, b: u8) -> usize
+    ensures { λ r. ⌜ now (rest .exit) ≡ wrote.over (numbers.copies k b) (now (rest .entry)) ⌝ }
+    ensures { λ r. ⌜ r ≡ min k (length (now (rest .entry))) ⌝ }
+{
+    let n = smaller(k, rest.len());
+    let mut filled = 0;
+    while filled < n {
+        rest[filled] = b;
+        filled += 1;
+    }
+    filled
+}
+
+// The number that the bytes of s are, the high byte first, as far as 64 bits hold it.
+pub fn number(s: &[u8]) -> u64
+    ensures { λ r. ⌜ r ≡ numbers.number (now (s .entry)) % 2 ^ 64 ⌝ }
+{
+    let mut x: u64 = 0;
+    let mut i = 0;
+    while i < s.len() {
+        x = (x << 8) + s[i] as u64;
+        i += 1;
+    }
+    x
+}
+
+// The byte of x that has `place` bytes behind it.
+fn byte_at(x: u64, place: usize) -> u8
+    ensures { λ r. ⌜ r ≡ x / 256 ^ place % 256 ⌝ }
+{
+    if place < 8 {
+        let y = x >> (8 * place);
+        return (y % 256) as u8;
+    }
+    0
+}
+
+// The k low bytes of x, the high one first, as many as there is room for, over the front of rest; how many that is.
+pub fn put_number(rest: &mut [u8], k: usize, x: u64) -> usize
+    ensures { λ r. ⌜ now (rest .exit) ≡ wrote.over (numbers.bytes k x) (now (rest .entry)) ⌝ }
+    ensures { λ r. ⌜ r ≡ min k (length (now (rest .entry))) ⌝ }
+{
+    let n = smaller(k, rest.len());
+    let mut place = k;
+    let mut i = 0;
+    while i < n {
+        place -= 1;
+        rest[i] = byte_at(x, place);
+        i += 1;
+    }
+    i
+}
