@@ -5,8 +5,12 @@ The cipher's vectors are the published ones of NBS Special Publication 500-20 (a
 variable key, permutation operation, substitution table. Each published answer is confirmed with an independent library
 (Python's cryptography over OpenSSL; Debian: python3-cryptography) before it is written; a difference stops the script.
 
-With --write the files are written, with --check they are compared. A line of stdin is an operation and four numbers of 16 hexadecimal digits: left key, right key, count, block.
-Line n of stdout is line n of stdin and its answer.
+Data keys sealed under a single key or a pair offset by a count, and MACs, are made with that library; the example of
+FIPS 113 is a published one.
+
+A line of stdin is an operation and four numbers of 16 hexadecimal digits: left key, right key, count, block; after an M
+stands the text, on a line of its own. A line of stdout is a line or a text of stdin and its answer. With --write the files
+are written, with --check they are compared.
 """
 import pathlib
 import sys
@@ -21,9 +25,16 @@ except ImportError:
 ROOT = pathlib.Path(__file__).resolve().parents[2]
 
 
-def encipher(key, block):
-    cipher = Cipher(TripleDES(key.to_bytes(8, "big") * 3), modes.ECB()).encryptor()
+def seal(left, right, block):
+    """ede under a pair; with right equal to left, e under a single key."""
+    keys = b"".join(key.to_bytes(8, "big") for key in (left, right, left))
+    cipher = Cipher(TripleDES(keys), modes.ECB()).encryptor()
     return int.from_bytes(cipher.update(block.to_bytes(8, "big")), "big")
+
+
+def mac(key, text):
+    cipher = Cipher(TripleDES(key.to_bytes(8, "big") * 3), modes.CBC(bytes(8))).encryptor()
+    return int.from_bytes(cipher.update(text + bytes(-len(text) % 8))[-8:-4], "big")
 
 
 def published(name, width):
@@ -53,6 +64,24 @@ def cipher_vectors():
     yield from published("substitution-table.txt", 3)
 
 
+def sealed_keys():
+    """Top keys, counts and data keys: counts 1 and 2, 258, both ends; data keys of any parity."""
+    tops = [(0x0123456789ABCDEF, 0xFEDCBA9876543210), (0x133457799BBCDFF1, 0x0E329232EA6D0D73)]
+    for left, right in tops:
+        for count in (1, 2, 3, 258, 259, 65536, 99_999_998, 99_999_999):
+            for data in (0x8F6E5D4C3B2A1907, 0, 0xFFFFFFFFFFFFFFFF):
+                yield left, right, count, data
+
+
+def texts():
+    """FIPS 113's example, then texts of each length around the ends of blocks."""
+    yield 0x0123456789ABCDEF, b"7654321 Now is the time for ", 0xF1D30F68
+    yield 0x0123456789ABCDEF, b"MCL/RSM RCV/HARBOR ORG/MILL ", None
+    line = b"MCL/KSM RCV/HARBOR ORG/MILL KD/0123456789ABCDEF.P.PAYMENT1.KEYA IV/E0123456789ABCDEF CTP/258 "
+    for length in [*range(0, 26), 63, 64, 65, len(line)]:
+        yield 0x133457799BBCDFF1, line[:length], None
+
+
 def main():
     records, answers = [], []
 
@@ -62,10 +91,21 @@ def main():
         answers.append(f"{line} {answer:016x}")
 
     for key, plain, answer in cipher_vectors():
-        if encipher(key, plain) != answer:
+        if seal(key, key, plain) != answer:
             sys.exit(f"published answer not confirmed: key {key:016X} block {plain:016X} answer {answer:016X}")
         add("E", key, 0, 0, plain, answer)
         add("D", key, 0, 0, answer, plain)
+    for left, right, count, data in sealed_keys():
+        single, pair = left ^ count, (left ^ count, right ^ count)
+        add("S", left, 0, count, data, seal(single, single, data))
+        add("U", left, 0, count, seal(single, single, data), data)
+        add("T", left, right, count, data, seal(*pair, data))
+        add("V", left, right, count, seal(*pair, data), data)
+    for key, text, answer in texts():
+        if answer is not None and mac(key, text) != answer:
+            sys.exit(f"published MAC not confirmed: key {key:016X} answer {answer:08X}")
+        records.append(f"M {key:016x} {0:016x} {len(text):016x} {0:016x}\n{text.decode()}")
+        answers.append(f"{text.decode()} {mac(key, text):08x}")
     store("stdin", records)
     store("stdout", answers + [f"{len(records)} lines"])
     print(f"{len(records)} lines")

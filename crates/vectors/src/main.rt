@@ -1,5 +1,6 @@
 // Known answers: reads lines of an operation and four numbers, and writes each with its answer.
 ghost use Prim.Native.Nat.{_<_};
+use keying::Top;
 
 // The value of a hexadecimal digit; of any other byte, zero.
 fn digit(b: u8) -> u64
@@ -29,17 +30,22 @@ fn hex(s: &[u8]) -> u64 {
     n
 }
 
-// What an operation answers: E enciphers a block under the left key, D deciphers it.
+// What an operation answers: E enciphers a block under the left key and D deciphers it; S seals a data key under the left
+// key offset by the count and U unseals it; T seals it under the pair of left and right so offset and V unseals it.
 fn answer(operation: u8, left: u64, right: u64, count: u64, block: u64) -> u64 {
     match operation {
-        69 => dea::encipher(left, block),
-        68 => dea::decipher(left, block),
+        b'E' => dea::encipher(left, block),
+        b'D' => dea::decipher(left, block),
+        b'S' => keying::seal(keying::working(Top::Single(left), count), block),
+        b'U' => keying::unseal(keying::working(Top::Single(left), count), block),
+        b'T' => keying::seal(keying::working(Top::Pair(left, right), count), block),
+        b'V' => keying::unseal(keying::working(Top::Pair(left, right), count), block),
         _ => 0,
     }
 }
 
-// A line with its answer.
-fn tell(line: &[u8]) {
+// A line of four numbers with its answer.
+fn tell_block(line: &[u8]) {
     if line.len() < 69 {
         return;
     }
@@ -56,8 +62,39 @@ fn tell(line: &[u8]) {
     io::write_all(1, b"\n");
 }
 
+// The MAC under the left key of the text that follows a line, as many bytes as its count says and a line end.
+fn tell_mac(line: &[u8], text: &mut [u8]) {
+    if line.len() < 69 {
+        return;
+    }
+    let n = (hex(&line[36..52]) % 512) as usize;
+    if text.len() <= n {
+        return;
+    }
+    io::read_full(0, &mut text[0..n]);
+    let mac = keying::mac(hex(&line[2..18]), &text[0..n]);
+    io::write_all(1, &text[0..n]);
+    io::write_all(1, b" ");
+    io::print_hex(1, mac as u64, 8);
+    io::write_all(1, b"\n");
+    let e = n + 1;
+    io::read_full(0, &mut text[n..e]);
+}
+
+// A line with its answer.
+fn tell(line: &[u8], text: &mut [u8]) {
+    if 0 < line.len() {
+        if line[0] == b'M' {
+            tell_mac(line, text);
+        } else {
+            tell_block(line);
+        }
+    }
+}
+
 fn main() {
     let mut line = [0u8; 70];
+    let mut text = [0u8; 512];
     let mut lines: u64 = 0;
     while lines < 100000 {
         if io::read_full(0, &mut line) < 70 {
@@ -65,7 +102,7 @@ fn main() {
             io::write_all(1, b" lines\n");
             return;
         }
-        tell(&line);
+        tell(&line, &mut text);
         lines += 1;
     }
 }

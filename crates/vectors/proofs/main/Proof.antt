@@ -7,60 +7,64 @@ use Rattle.vectors.proofs.main.Statement.{statement}
 use Rattle.vectors.proofs.main.Tie as tie
 
 abbrev Inv-loop : tie.InvT-loop
-Inv-loop line₀ lines₀ t3 line lines = (length line ≡ 70) × (lines ≤ 100000)
+Inv-loop line₀ text₀ lines₀ t4 line text lines = (length line ≡ 70) × (length text ≡ 512) × (lines ≤ 100000)
 
 abbrev μ-loop : tie.MeasureT-loop
-μ-loop line₀ lines₀ t3 line lines = 100000 - lines
+μ-loop line₀ text₀ lines₀ t4 line text lines = 100000 - lines
 
--- src/main.rt:62:5
+-- src/main.rt:99:5
 loop-holds : tie.Need-loop-holds Inv-loop μ-loop
 loop-holds c = search needs
 
--- src/main.rt:63:29
+-- src/main.rt:100:29
 slice-aggregate-read-full : tie.Need-slice-aggregate-read-full Inv-loop μ-loop
 slice-aggregate-read-full c = search needs
 
--- src/main.rt:63:12
+-- src/main.rt:100:12
 read-full-requires : tie.Need-read-full-requires Inv-loop μ-loop
 read-full-requires c κs = search needs
 
--- src/main.rt:64:13
+-- src/main.rt:101:13
 print-decimal-requires : tie.Need-print-decimal-requires Inv-loop μ-loop
 print-decimal-requires c κs = search needs
 
--- src/main.rt:65:30
+-- src/main.rt:102:30
 slice-aggregate-write-all : tie.Need-slice-aggregate-write-all Inv-loop μ-loop
 slice-aggregate-write-all c = search needs
 
--- src/main.rt:65:13
+-- src/main.rt:102:13
 write-all-requires : tie.Need-write-all-requires Inv-loop μ-loop
 write-all-requires c κs = search needs
 
--- src/main.rt:66:13
+-- src/main.rt:103:13
 returns : tie.Need-returns Inv-loop μ-loop
 returns c = search needs
 
--- src/main.rt:68:14
+-- src/main.rt:105:14
 slice-aggregate-tell : tie.Need-slice-aggregate-tell Inv-loop μ-loop
 slice-aggregate-tell c = search needs
 
--- src/main.rt:68:9
+-- src/main.rt:105:21
+slice-aggregate-tell-2 : tie.Need-slice-aggregate-tell-2 Inv-loop μ-loop
+slice-aggregate-tell-2 c = search needs
+
+-- src/main.rt:105:9
 tell-requires : tie.Need-tell-requires Inv-loop μ-loop
 tell-requires c κs = search needs
 
--- src/main.rt:69:9
+-- src/main.rt:106:9
 add-lines : tie.Need-add-lines Inv-loop μ-loop
 add-lines c = search needs
 
--- src/main.rt:62:5
+-- src/main.rt:99:5
 loop-less : tie.Need-loop-less Inv-loop μ-loop
 loop-less c = search needs
 
--- src/main.rt:62:5
+-- src/main.rt:99:5
 loop-again : tie.Need-loop-again Inv-loop μ-loop
 loop-again c = search needs
 
--- src/main.rt:59:1
+-- src/main.rt:95:1
 returns-2 : tie.Need-returns-2 Inv-loop μ-loop
 returns-2 c = search needs
 
@@ -78,6 +82,7 @@ main-spec =
     write-all-requires
     returns
     slice-aggregate-tell
+    slice-aggregate-tell-2
     tell-requires
     add-lines
     loop-less

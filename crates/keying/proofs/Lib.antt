@@ -1,0 +1,5 @@
+pub mod Ones
+pub mod Tests
+pub mod Calendar
+pub mod Laws
+pub mod Numbers

@@ -1,0 +1,33 @@
+-- Test by test.
+use mathlib.Core.Path.{sym, ap, _∙_}
+use Prim.Native.Nat.{ℕ}
+use borrow.Author.Needs.{needs}
+use Rattle.octets.specs.Text.{within}
+use Rattle.keying.specs.Date.{is-day}
+use Rattle.keying.proofs.Tests.{and-then, and-else}
+use Rattle.keying.proofs.is_day.Statement.{statement}
+use Rattle.keying.proofs.is_day.Tie as tie
+
+within-requires : tie.Need-within-requires
+within-requires c κs = search needs
+
+days-in-requires : tie.Need-days-in-requires
+days-in-requires c κs = search needs
+
+within-requires-2 : tie.Need-within-requires-2
+within-requires-2 c κs = search needs
+
+returns : tie.Need-returns
+unfolding is-day
+returns c =
+    let a = c .before .before .before .before .args in
+    and-then _ _ (sym (c .before .before .before .within .ensures) ∙ c .before .before .if1 .taken)
+    (c .within2 .ensures ∙ ap (λ (days : ℕ). within 1 days (a .day)) (c .before .days-in .ensures))
+
+returns-2 : tie.Need-returns-2
+unfolding is-day
+returns-2 c = and-else _ _ (sym (c .before .within .ensures) ∙ c .if1 .left) (c .if1 .left)
+
+pub is-day-spec : {M : Type 1} → statement M
+is-day-spec =
+    tie.close (tie.spec within-requires days-in-requires within-requires-2 returns returns-2)

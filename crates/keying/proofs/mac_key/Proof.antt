@@ -1,0 +1,31 @@
+-- By the number of keys.
+use borrow.Author.Needs.{needs}
+use Rattle.keying.specs.Mac.{mac-key}
+use Rattle.keying.proofs.mac_key.Statement.{statement}
+use Rattle.keying.proofs.mac_key.Tie as tie
+
+enum-told : tie.Need-enum-told
+enum-told c = search needs
+
+enum-known-keys : tie.Need-enum-known-keys
+enum-known-keys c = search needs
+
+enum-known-keys-2 : tie.Need-enum-known-keys-2
+enum-known-keys-2 c = search needs
+
+returns : tie.Need-returns
+unfolding mac-key
+returns c = cc
+
+returns-2 : tie.Need-returns-2
+unfolding mac-key
+returns-2 c = cc
+
+returns-3 : tie.Need-returns-3
+unfolding mac-key
+returns-3 c = cc
+
+pub mac-key-spec : {M : Type 1} → statement M
+mac-key-spec =
+    tie.close
+    (tie.spec enum-told enum-known-keys enum-known-keys-2 returns returns-2 returns-3)

@@ -1,0 +1,54 @@
+-- Half by half.
+use mathlib.Core.Path.{sym, ap, _∙_}
+use borrow.Author.Needs.{needs}
+use Rattle.keying.specs.Keys.{odd-top}
+use Rattle.keying.specs.Parity.{odd}
+use Rattle.keying.proofs.Tests.{and-then, and-else}
+use Rattle.keying.proofs.Ones.{odd-single, odd-pair}
+use Rattle.keying.proofs.odd_top.Statement.{statement}
+use Rattle.keying.proofs.odd_top.Tie as tie
+
+enum-known-top : tie.Need-enum-known-top
+enum-known-top c = search needs
+
+odd-requires : tie.Need-odd-requires
+odd-requires c κs = search needs
+
+enum-known-top-2 : tie.Need-enum-known-top-2
+enum-known-top-2 c = search needs
+
+odd-requires-2 : tie.Need-odd-requires-2
+odd-requires-2 c κs = search needs
+
+odd-requires-3 : tie.Need-odd-requires-3
+odd-requires-3 c κs = search needs
+
+returns : tie.Need-returns
+returns c = cc (odd-single (c .before .before .top .given .0 .0))
+
+returns-2 : tie.Need-returns-2
+returns-2 c =
+    let t = c .before .before .before .before .top2 .given in
+    let first = sym (c .before .before .odd2 .ensures) ∙ c .before .if1 .taken in
+    and-then (odd (t .0 .0)) (odd (t .0 .1 .0)) first (c .odd3 .ensures)
+    ∙ sym (odd-pair (t .0 .0) (t .0 .1 .0)) ∙ ap odd-top (sym (t .1))
+
+returns-3 : tie.Need-returns-3
+returns-3 c =
+    let t = c .before .before .before .top2 .given in
+    let first = sym (c .before .odd2 .ensures) ∙ c .if1 .left in
+    and-else (odd (t .0 .0)) (odd (t .0 .1 .0)) first (c .if1 .left)
+    ∙ sym (odd-pair (t .0 .0) (t .0 .1 .0)) ∙ ap odd-top (sym (t .1))
+
+pub odd-top-spec : {M : Type 1} → statement M
+odd-top-spec =
+    tie.close
+    (tie.spec
+    enum-known-top
+    odd-requires
+    enum-known-top-2
+    odd-requires-2
+    odd-requires-3
+    returns
+    returns-2
+    returns-3)

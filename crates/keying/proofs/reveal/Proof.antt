@@ -1,0 +1,18 @@
+-- As the definition has it.
+use borrow.Author.Needs.{needs}
+use Rattle.keying.specs.Iv.{reveal}
+use Rattle.keying.proofs.reveal.Statement.{statement}
+use Rattle.keying.proofs.reveal.Tie as tie
+
+last-key-requires : tie.Need-last-key-requires
+last-key-requires c κs = search needs
+
+decipher-requires : tie.Need-decipher-requires
+decipher-requires c κs = search needs
+
+returns : tie.Need-returns
+unfolding reveal
+returns c = cc
+
+pub reveal-spec : {M : Type 1} → statement M
+reveal-spec = tie.close (tie.spec last-key-requires decipher-requires returns)

@@ -1,0 +1,22 @@
+-- By the form of the key.
+use borrow.Author.Needs.{needs}
+use Rattle.keying.specs.Keys.{offset, working}
+use Rattle.keying.proofs.working.Statement.{statement}
+use Rattle.keying.proofs.working.Tie as tie
+
+enum-known-top : tie.Need-enum-known-top
+enum-known-top c = search needs
+
+enum-known-top-2 : tie.Need-enum-known-top-2
+enum-known-top-2 c = search needs
+
+returns : tie.Need-returns
+unfolding offset working
+returns c = cc
+
+returns-2 : tie.Need-returns-2
+unfolding offset working
+returns-2 c = cc
+
+pub working-spec : {M : Type 1} → statement M
+working-spec = tie.close (tie.spec enum-known-top enum-known-top-2 returns returns-2)
