@@ -1,0 +1,49 @@
+-- `fields::contents` meets its contract: contents end at the first blank. Assumes nothing.
+use Prim.Native.Nat.{_+_}
+use mathlib.Core.Path.{sym, ap, refl, _∙_}
+use native.Mathlib.Omega.{arith}
+use lib.ListN.{length, drop, length-drop}
+use borrow.Author.Tests.{not-true, not-false}
+use Rattle.octets.proofs.Comparing.{starts-fits}
+use Rattle.fields.specs.Steps.{part-seen}
+use Rattle.fields.proofs.PieceLaws.{no-tag, piece-between, piece-endless}
+use borrow.Author.Needs.{needs}
+use Rattle.fields.proofs.contents.Statement.{statement}
+use Rattle.fields.proofs.contents.Tie as tie
+
+starts-requires : tie.Need-starts-requires
+starts-requires c κs = search needs
+
+returns : tie.Need-returns
+returns c =
+    let a = c .before .before .before .before .args in
+    let no = sym (c .before .starts .ensures) ∙ not-true _ (c .if1 .taken) in
+    sym (ap (part-seen (a .at + length (a .tag .now))) (no-tag (a .tag .now) (drop (a .at) (a .text .now)) no))
+
+add-from : tie.Need-add-from
+add-from c =
+    let a = c .before .before .before .before .args in
+    let s = a .text .now in
+    let yes = sym (c .before .starts .ensures) ∙ not-false _ (c .if1 .left) in
+    omega (arith, starts-fits (a .tag .now) (drop (a .at) s) yes, length-drop (a .at) s)
+
+until-requires : tie.Need-until-requires
+until-requires c κs = search needs
+
+returns-2 : tie.Need-returns-2
+returns-2 c =
+    let a = c .before .before .before .before .before .before .args in
+    let k = c .before .before in
+    let yes = sym (k .before .starts .ensures) ∙ not-false _ (k .if1 .left) in
+    sym (piece-between (a .tag .now) (a .text .now) (a .at) _ _ yes refl (c .before .until .ensures) (c .if2 .taken))
+
+returns-3 : tie.Need-returns-3
+returns-3 c =
+    let a = c .before .before .before .before .before .before .args in
+    let k = c .before .before in
+    let yes = sym (k .before .starts .ensures) ∙ not-false _ (k .if1 .left) in
+    sym (piece-endless (a .tag .now) (a .text .now) (a .at) _ _ yes refl (c .before .until .ensures) (c .if2 .left))
+
+pub contents-spec : {M : Type 1} → statement M
+contents-spec =
+    tie.close (tie.spec starts-requires returns add-from until-requires returns-2 returns-3)

@@ -1,0 +1,117 @@
+-- `fields::keys::key` meets its contract: 16 hex digits, and behind a dot subfields. Assumes nothing.
+use mathlib.Core.Path.{_≡_, sym, ap, _∙_}
+use mathlib.Core.Bool.{Bool, true, false}
+use Prim.Native.Nat.{ℕ, _+_}
+use native.Mathlib.Omega.{arith}
+use lib.ListN.{length, take, drop}
+use borrow.Author.Tests.{not-true, not-false}
+use Rattle.octets.specs.Text.{Text, is-run}
+use Rattle.csm.specs.Format.{value}
+use Rattle.csm.specs.Fields.{numeral, split, kd}
+use Rattle.fields.specs.Seen.{key-seen}
+use Rattle.fields.specs.Steps.{alone, subfields-seen}
+use Rattle.fields.specs.declared.keys.Subfields.the-variants.{Are}
+use Rattle.fields.proofs.DigitLaws.{digits-of}
+use Rattle.fields.proofs.KeyLaws.{keyed, key-none, key-alone, key-more}
+use borrow.Author.Needs.{needs}
+use Rattle.fields.proofs.keys.key.Statement.{statement}
+use Rattle.fields.proofs.keys.key.Tie as tie
+
+until-requires : tie.Need-until-requires
+until-requires c κs = search needs
+
+front-requires : tie.Need-front-requires
+front-requires c κs = search needs
+
+is-run-requires : tie.Need-is-run-requires
+is-run-requires c κs = search needs
+
+-- whether the first piece is a key
+digits-are : (c : tie.After-is-run) (b : Bool) → c .is-run .result ≡ b → let k = c .before .before in
+    is-run 70 16 16 (take (k .until .result) (k .before .before .args .w .now)) ≡ b
+digits-are c b e = ap (is-run 70 16 16) (sym (c .before .front .ensures)) ∙ sym (c .is-run .ensures) ∙ e
+
+returns : tie.Need-returns
+returns c =
+    let k = c .before .before .before in
+    let no = digits-are (c .before) false (not-true _ (c .if1 .taken)) in
+    sym (key-none (k .before .before .args .w .now) _ (k .until .ensures) no)
+
+yes : (c : tie.Else1) → let k = c .before .before .before in
+    is-run 70 16 16 (take (k .until .result) (k .before .before .args .w .now)) ≡ true
+yes c = digits-are (c .before) true (not-false _ (c .if1 .left))
+
+numeral-requires : tie.Need-numeral-requires
+numeral-requires c κs =
+    let d = sym (c .before .is-run .ensures) ∙ not-false _ (c .if1 .left) in
+    (omega arith, digits-of 70 16 16 (omega arith) (omega arith) (c .before .before .front .result .now) d)
+
+-- the key's number
+key-is : (c : tie.After-numeral) → let k = c .before .before .before .before in
+    numeral 16 0 (take (k .until .result) (k .before .before .args .w .now)) ≡ c .numeral .result
+key-is c = ap (numeral 16 0) (sym (c .before .before .before .front .ensures)) ∙ sym (c .numeral .ensures)
+
+returns-2 : tie.Need-returns-2
+returns-2 c =
+    let d = c .before in
+    let k = d .before .before .before .before in
+    let w = k .before .before .args .w .now in
+    sym (key-alone w _ (k .until .ensures) (c .if2 .taken) true (yes (d .before))
+    ∙ ap (λ (n : ℕ). keyed true n (length w) (Are false 0 0)) (key-is d))
+
+behind-requires : tie.Need-behind-requires
+behind-requires c κs = search needs
+
+mark-and-names-requires : tie.Need-mark-and-names-requires
+mark-and-names-requires c κs = search needs
+
+enum-known-p : tie.Need-enum-known-p
+enum-known-p c = search needs
+
+enum-told : tie.Need-enum-told
+enum-told c = search needs
+
+-- the key and what its subfields give
+behind-key : (c : tie.After-mark-and-names) → let d = c .before .before .before in
+    let k = d .before .before .before .before in let w = k .before .before .args .w .now in
+    key-seen (alone (value kd w)) ≡ keyed true (d .numeral .result) (length w) (c .mark-and-names .result)
+behind-key c =
+    let d = c .before .before .before in
+    let k = d .before .before .before .before in
+    let w = k .before .before .args .w .now in
+    let n = k .until .result in
+    key-more w n (k .until .ensures) (c .before .before .if2 .left) true (yes (d .before))
+    ∙ ap (λ (m : ℕ). keyed true m (length w) (subfields-seen (split (drop (n + 1) w)))) (key-is d)
+    ∙ ap (λ (t : Text). keyed true (d .numeral .result) (length w) (subfields-seen (split t)))
+    (sym (c .before .behind .ensures))
+    ∙ ap (keyed true (d .numeral .result) (length w)) (sym (c .mark-and-names .ensures))
+
+returns-3 : tie.Need-returns-3
+returns-3 c =
+    let d = c .before .before .before .before .before in
+    let w = d .before .before .before .before .before .before .args .w .now in
+    sym (behind-key (c .before .before) ∙ ap (keyed true (d .numeral .result) (length w)) (c .enum-told .given .1))
+
+returns-4 : tie.Need-returns-4
+returns-4 c =
+    let d = c .before .before .before .before .before .before in
+    let w = d .before .before .before .before .before .before .args .w .now in
+    sym (behind-key (c .before .before .before)
+    ∙ ap (keyed true (d .numeral .result) (length w)) (c .before .p .given .1))
+
+pub key-spec : {M : Type 1} → statement M
+key-spec =
+    tie.close
+    (tie.spec
+    until-requires
+    front-requires
+    is-run-requires
+    returns
+    numeral-requires
+    returns-2
+    behind-requires
+    mark-and-names-requires
+    enum-known-p
+    enum-told
+    returns-3
+    returns-4)

@@ -1,0 +1,121 @@
+-- `fields::keys::mark_and_names` meets its contract: the mark, or the mark or nothing and names. Assumes nothing.
+use mathlib.Core.Path.{_≡_, sym, ap, _∙_}
+use mathlib.Core.Bool.{Bool, true, false}
+use mathlib.Core.List.{[], _∷_}
+use Prim.Native.Nat.{_+_}
+use lib.ListN.{take, drop}
+use borrow.Author.Tests.{not-true, not-false}
+use Rattle.octets.specs.Text.{Text, ascii, same}
+use Rattle.csm.specs.Fields.{split}
+use Rattle.csm.proofs.KdTest.{is-mark}
+use Rattle.fields.specs.Steps.{subfields-seen}
+use Rattle.fields.proofs.KeyLaws.{marked, mark-one, mark-more}
+use borrow.Author.Needs.{needs}
+use Rattle.fields.proofs.keys.mark_and_names.Statement.{statement}
+use Rattle.fields.proofs.keys.mark_and_names.Tie as tie
+
+until-requires : tie.Need-until-requires
+until-requires c κs = search needs
+
+front-requires : tie.Need-front-requires
+front-requires c κs = search needs
+
+slice-aggregate-same : tie.Need-slice-aggregate-same
+slice-aggregate-same c = search needs
+
+same-requires : tie.Need-same-requires
+same-requires c κs = search needs
+
+-- whether the first piece is the mark
+p-is : (c : tie.After-same) → let k = c .before .before .before in
+    same (take (k .until .result) (k .before .before .args .w .now)) (ascii "P") ≡ c .same .result
+p-is c =
+    ap (λ (m : Text). same m (ascii "P")) (sym (c .before .before .front .ensures)) ∙ sym (c .same .ensures)
+
+returns : tie.Need-returns
+returns c =
+    let p = c .before .before in
+    let k = p .before .before .before in
+    let w = k .before .before .args .w .now in
+    sym (mark-one w _ (k .until .ensures) (c .before .if1 .taken) true (p-is p ∙ c .if2 .taken))
+
+returns-2 : tie.Need-returns-2
+returns-2 c =
+    let p = c .before .before in
+    let k = p .before .before .before in
+    let w = k .before .before .args .w .now in
+    sym (mark-one w _ (k .until .ensures) (c .before .if1 .taken) false (p-is p ∙ c .if2 .left))
+
+is-mark-requires : tie.Need-is-mark-requires
+is-mark-requires c κs = search needs
+
+-- the mark or nothing, then what names give
+parted : (c : tie.After-is-mark) (b : Bool) → c .is-mark .result ≡ b
+    → let p = c .before .before in let k = p .before .before .before in let w = k .before .before .args .w .now in
+    subfields-seen (split w)
+    ≡ marked b (p .same .result) (subfields-seen ([] ∷ split (drop (k .until .result + 1) w)))
+parted c b e =
+    let p = c .before .before in
+    let k = p .before .before .before in
+    let w = k .before .before .args .w .now in
+    let n = k .until .result in
+    let m : is-mark (take n w) ≡ b =
+    ap is-mark (sym (p .before .before .front .ensures)) ∙ sym (c .is-mark .ensures) ∙ e in
+    mark-more w n (k .until .ensures) (c .before .if1 .left)
+    ∙ (λ i. marked (m i) (p-is p i) (subfields-seen ([] ∷ split (drop (n + 1) w))))
+
+returns-3 : tie.Need-returns-3
+returns-3 c = sym (parted (c .before) false (not-true _ (c .if3 .taken)))
+
+behind-requires : tie.Need-behind-requires
+behind-requires c κs = search needs
+
+names-requires : tie.Need-names-requires
+names-requires c κs = search needs
+
+enum-known-idk1 : tie.Need-enum-known-idk1
+enum-known-idk1 c = search needs
+
+enum-told : tie.Need-enum-told
+enum-told c = search needs
+
+-- what names give behind the mark's dot
+behind-mark : (c : tie.After-names) → let p = c .before .before .before .before .before in
+    let k = p .before .before .before in let w = k .before .before .args .w .now in
+    subfields-seen (split w) ≡ marked true (p .same .result) (c .names .result)
+behind-mark c =
+    let m = c .before .before .before in
+    let p = m .before .before in
+    parted m true (not-false _ (c .before .before .if3 .left))
+    ∙ ap (λ (t : Text). marked true (p .same .result) (subfields-seen ([] ∷ split t)))
+    (sym (c .before .behind .ensures))
+    ∙ ap (marked true (p .same .result)) (sym (c .names .ensures))
+
+returns-4 : tie.Need-returns-4
+returns-4 c =
+    let p = c .before .before .before .before .before .before .before in
+    sym (behind-mark (c .before .before) ∙ ap (marked true (p .same .result)) (c .enum-told .given .1))
+
+returns-5 : tie.Need-returns-5
+returns-5 c =
+    let p = c .before .before .before .before .before .before .before .before in
+    sym (behind-mark (c .before .before .before) ∙ ap (marked true (p .same .result)) (c .before .idk1 .given .1))
+
+pub mark-and-names-spec : {M : Type 1} → statement M
+mark-and-names-spec =
+    tie.close
+    (tie.spec
+    until-requires
+    front-requires
+    slice-aggregate-same
+    same-requires
+    returns
+    returns-2
+    is-mark-requires
+    returns-3
+    behind-requires
+    names-requires
+    enum-known-idk1
+    enum-told
+    returns-4
+    returns-5)
