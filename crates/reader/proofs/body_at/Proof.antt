@@ -1,0 +1,150 @@
+-- `reader::body_at` meets its contract: each class by its own law. Assumes nothing.
+use mathlib.Core.Path.{_≡_, sym, ap, _∙_}
+use lib.ListN.{drop}
+use Rattle.octets.specs.Text.{Text}
+use Rattle.reader.specs.Stages.{body}
+use Rattle.fields.specs.declared.Class.{Class}
+use Rattle.reader.specs.declared.Head.{Head}
+use Rattle.reader.proofs.BodyLaws.{rsm-known, esm-known, dsm-rest, ers-rest, rfs-rest, rtr-rest}
+use borrow.Author.Needs.{needs}
+use Rattle.reader.proofs.body_at.Statement.{statement}
+use Rattle.reader.proofs.body_at.Tie as tie
+
+of-class : (h : Head) (u : Text) {c k : Class} → c ≡ k → body k h u ≡ body c h u
+of-class h u e = ap (λ (k : Class). body k h u) (sym e)
+
+enum-told : tie.Need-enum-told
+enum-told c = search needs
+
+rsi-or-option-requires : tie.Need-rsi-or-option-requires
+rsi-or-option-requires c κs = search needs
+
+enum-told-2 : tie.Need-enum-told-2
+enum-told-2 c = search needs
+
+ksm-or-option-requires : tie.Need-ksm-or-option-requires
+ksm-or-option-requires c κs = search needs
+
+enum-told-3 : tie.Need-enum-told-3
+enum-told-3 c = search needs
+
+rsm-at-requires : tie.Need-rsm-at-requires
+rsm-at-requires c κs = search needs
+
+enum-told-4 : tie.Need-enum-told-4
+enum-told-4 c = search needs
+
+esm-at-requires : tie.Need-esm-at-requires
+esm-at-requires c κs = search needs
+
+enum-told-5 : tie.Need-enum-told-5
+enum-told-5 c = search needs
+
+rest-at-requires : tie.Need-rest-at-requires
+rest-at-requires c κs = search needs
+
+enum-told-6 : tie.Need-enum-told-6
+enum-told-6 c = search needs
+
+rest-at-requires-2 : tie.Need-rest-at-requires-2
+rest-at-requires-2 c κs = search needs
+
+enum-told-7 : tie.Need-enum-told-7
+enum-told-7 c = search needs
+
+rest-at-requires-3 : tie.Need-rest-at-requires-3
+rest-at-requires-3 c κs = search needs
+
+enum-told-8 : tie.Need-enum-told-8
+enum-told-8 c = search needs
+
+rest-at-requires-4 : tie.Need-rest-at-requires-4
+rest-at-requires-4 c κs = search needs
+
+enum-told-9 : tie.Need-enum-told-9
+enum-told-9 c = search needs
+
+returns : tie.Need-returns
+returns c =
+    let a = c .before .before .before .before .args in
+    c .rsi-or-option .ensures
+    ∙ of-class (a .head) (drop (a .at) (a .text .now)) (c .before .enum-told .given .1)
+
+returns-2 : tie.Need-returns-2
+returns-2 c =
+    let a = c .before .before .before .before .args in
+    c .ksm-or-option .ensures
+    ∙ of-class (a .head) (drop (a .at) (a .text .now)) (c .before .enum-told2 .given .1)
+
+returns-3 : tie.Need-returns-3
+returns-3 c =
+    let a = c .before .before .before .before .args in
+    c .rsm-at .ensures ∙ sym (rsm-known (a .head) (drop (a .at) (a .text .now)))
+    ∙ of-class (a .head) (drop (a .at) (a .text .now)) (c .before .enum-told3 .given .1)
+
+returns-4 : tie.Need-returns-4
+returns-4 c =
+    let a = c .before .before .before .before .args in
+    c .esm-at .ensures ∙ sym (esm-known (a .head) (drop (a .at) (a .text .now)))
+    ∙ of-class (a .head) (drop (a .at) (a .text .now)) (c .before .enum-told4 .given .1)
+
+returns-5 : tie.Need-returns-5
+returns-5 c =
+    let a = c .before .before .before .before .args in
+    c .rest-at .ensures ∙ sym (dsm-rest (a .head) (drop (a .at) (a .text .now)))
+    ∙ of-class (a .head) (drop (a .at) (a .text .now)) (c .before .enum-told5 .given .1)
+
+returns-6 : tie.Need-returns-6
+returns-6 c =
+    let a = c .before .before .before .before .args in
+    c .rest-at2 .ensures ∙ sym (ers-rest (a .head) (drop (a .at) (a .text .now)))
+    ∙ of-class (a .head) (drop (a .at) (a .text .now)) (c .before .enum-told6 .given .1)
+
+returns-7 : tie.Need-returns-7
+returns-7 c =
+    let a = c .before .before .before .before .args in
+    c .rest-at3 .ensures ∙ sym (rfs-rest (a .head) (drop (a .at) (a .text .now)))
+    ∙ of-class (a .head) (drop (a .at) (a .text .now)) (c .before .enum-told7 .given .1)
+
+returns-8 : tie.Need-returns-8
+returns-8 c =
+    let a = c .before .before .before .before .args in
+    c .rest-at4 .ensures ∙ sym (rtr-rest (a .head) (drop (a .at) (a .text .now)))
+    ∙ of-class (a .head) (drop (a .at) (a .text .now)) (c .before .enum-told8 .given .1)
+
+returns-9 : tie.Need-returns-9
+unfolding body
+returns-9 c =
+    let a = c .before .before .before .args in
+    of-class (a .head) (drop (a .at) (a .text .now)) (c .enum-told9 .given .1)
+
+pub body-at-spec : {M : Type 1} → statement M
+body-at-spec =
+    tie.close
+    (tie.spec
+    enum-told
+    rsi-or-option-requires
+    enum-told-2
+    ksm-or-option-requires
+    enum-told-3
+    rsm-at-requires
+    enum-told-4
+    esm-at-requires
+    enum-told-5
+    rest-at-requires
+    enum-told-6
+    rest-at-requires-2
+    enum-told-7
+    rest-at-requires-3
+    enum-told-8
+    rest-at-requires-4
+    enum-told-9
+    returns
+    returns-2
+    returns-3
+    returns-4
+    returns-5
+    returns-6
+    returns-7
+    returns-8
+    returns-9)

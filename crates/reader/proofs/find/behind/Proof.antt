@@ -1,0 +1,41 @@
+-- `reader::find::behind` meets its contract. Assumes nothing.
+use mathlib.Core.Path.{sym}
+use Prim.Native.Nat.{_-_}
+use native.Mathlib.Omega.{arith}
+use lib.ListN.{length, drop, drop-of-length-le, length-drop}
+use lib.Seq.{take-all}
+use borrow.Author.Needs.{needs}
+use Rattle.reader.proofs.find.behind.Statement.{statement}
+use Rattle.reader.proofs.find.behind.Tie as tie
+
+slice-aggregate-result : tie.Need-slice-aggregate-result
+slice-aggregate-result c = search needs
+
+returns : tie.Need-returns
+returns c = let a = c .before .before .args in sym (drop-of-length-le (a .s .now) {i = a .n} (omega arith))
+
+sub-result : tie.Need-sub-result
+sub-result c = search needs
+
+part-result-start : tie.Need-part-result-start
+part-result-start c = search needs
+
+part-result-end : tie.Need-part-result-end
+part-result-end c = search needs
+
+returns-2 : tie.Need-returns-2
+returns-2 c =
+    let a = c .before .before .args in
+    let s = a .s .now in
+    take-all (length s - a .n) (drop (a .n) s) (omega (arith, length-drop (a .n) s))
+
+pub behind-spec : {M : Type 1} → statement M
+behind-spec =
+    tie.close
+    (tie.spec
+    slice-aggregate-result
+    returns
+    sub-result
+    part-result-start
+    part-result-end
+    returns-2)

@@ -1,0 +1,50 @@
+-- `reader::rows::closing` meets its contract: what is left is compared with the closing parenthesis. Assumes nothing.
+use mathlib.Core.Path.{sym, ap, _∙_}
+use Prim.Native.Nat.{_-_}
+use lib.ListN.{length, drop, drop-of-length-le, length-drop}
+use lib.Seq.{take-all}
+use native.Mathlib.Omega.{arith}
+use Rattle.octets.specs.Text.{Text, ascii, same}
+use borrow.Author.Needs.{needs}
+use Rattle.reader.proofs.rows.closing.Statement.{statement}
+use Rattle.reader.proofs.rows.closing.Tie as tie
+
+returns : tie.Need-returns
+returns c =
+    let a = c .before .before .args in
+    sym (ap (λ (u : Text). same u (ascii ")")) (drop-of-length-le (a .text .now) {i = a .at} (omega arith)))
+
+sub-same : tie.Need-sub-same
+sub-same c = search needs
+
+part-same-start : tie.Need-part-same-start
+part-same-start c = search needs
+
+part-same-end : tie.Need-part-same-end
+part-same-end c = search needs
+
+slice-aggregate-same : tie.Need-slice-aggregate-same
+slice-aggregate-same c = search needs
+
+same-requires : tie.Need-same-requires
+same-requires c κs = search needs
+
+returns-2 : tie.Need-returns-2
+returns-2 c =
+    let a = c .before .before .before .before .before .args in
+    let s = a .text .now in
+    let u = drop (a .at) s in
+    c .same .ensures
+    ∙ ap (λ (u : Text). same u (ascii ")")) (take-all (length s - a .at) u (omega (arith, length-drop (a .at) s)))
+
+pub closing-spec : {M : Type 1} → statement M
+closing-spec =
+    tie.close
+    (tie.spec
+    returns
+    sub-same
+    part-same-start
+    part-same-end
+    slice-aggregate-same
+    same-requires
+    returns-2)

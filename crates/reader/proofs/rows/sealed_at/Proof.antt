@@ -1,0 +1,127 @@
+-- `reader::rows::sealed_at` meets its contract: CTP, MAC, then the end. Assumes nothing.
+use mathlib.Core.Path.{sym, _∙_}
+use mathlib.Core.Bool.{true, false}
+use Prim.Native.Nat.{_+_}
+use native.Mathlib.Omega.{arith}
+use lib.ListN.{drop}
+use Rattle.csm.specs.Fields.{CTP, MAC, tag, field, count}
+use Rattle.fields.proofs.Within.{Next, number-none, number-next, check-none, check-next}
+use Rattle.reader.proofs.StageLaws.{sealed-stop, sealed-open, sealed-step}
+use borrow.Author.Needs.{needs}
+use Rattle.reader.proofs.rows.sealed_at.Statement.{statement}
+use Rattle.reader.proofs.rows.sealed_at.Tie as tie
+
+-- CTP, read
+counted : (k : tie.After-known-told)
+    → let a = k .before .before .before .before .before .before .args in
+    let v = k .before .ctp .given .0 in
+    Next (field CTP) (a .text .now) (a .at) (v .0) (a .at + v .1 .0 + 5)
+counted k =
+    let a = k .before .before .before .before .before .before .args in
+    let v = k .before .ctp .given .0 in
+    number-next count (tag CTP) (a .text .now) (a .at) (v .0) (v .1 .0) _
+    (sym (k .before .before .before .count-field .ensures) ∙ k .before .ctp .given .1) (omega arith)
+
+-- MAC, read
+checked : (k : tie.After-known-told2)
+    → let l = k .before .before .before .before .before in
+    let a = l .before .before .before .before .before .before .args in
+    let next = a .at + l .before .ctp .given .0 .1 .0 + 5 in
+    let v = k .before .mac .given .0 in
+    Next (field MAC) (a .text .now) next (v .0) (next + v .1 .0 + 5)
+checked k =
+    let l = k .before .before .before .before .before in
+    let a = l .before .before .before .before .before .before .args in
+    let v = k .before .mac .given .0 in
+    check-next (tag MAC) (a .text .now) (a .at + l .before .ctp .given .0 .1 .0 + 5) (v .0) (v .1 .0) _
+    (sym (k .before .before .before .check-field .ensures) ∙ k .before .mac .given .1) (omega arith)
+
+slice-aggregate-count-field : tie.Need-slice-aggregate-count-field
+slice-aggregate-count-field c = search needs
+
+count-field-requires : tie.Need-count-field-requires
+count-field-requires c κs = search needs
+
+enum-known-ctp : tie.Need-enum-known-ctp
+enum-known-ctp c = search needs
+
+enum-told : tie.Need-enum-told
+enum-told c = search needs
+
+returns : tie.Need-returns
+returns c =
+    let a = c .before .before .before .before .before .args in
+    let no = number-none count (field CTP .read (drop (a .at) (a .text .now)))
+    (sym (c .before .before .count-field .ensures) ∙ c .enum-told .given .1) in
+    sym (sealed-stop (a .text .now) (a .at) no)
+
+add-next : tie.Need-add-next
+add-next c = omega (arith, counted c .within)
+
+add-next-2 : tie.Need-add-next-2
+add-next-2 c = omega (arith, counted c .within)
+
+slice-aggregate-check-field : tie.Need-slice-aggregate-check-field
+slice-aggregate-check-field c = search needs
+
+check-field-requires : tie.Need-check-field-requires
+check-field-requires c κs = search needs
+
+enum-known-mac : tie.Need-enum-known-mac
+enum-known-mac c = search needs
+
+enum-told-2 : tie.Need-enum-told-2
+enum-told-2 c = search needs
+
+returns-2 : tie.Need-returns-2
+returns-2 c =
+    let m = c .before .before in
+    let k = m .before .before in
+    let a = k .before .before .before .before .before .before .args in
+    let v = k .before .ctp .given .0 in
+    let no = check-none (field MAC .read (drop (a .at + v .1 .0 + 5) (a .text .now)))
+    (sym (m .check-field .ensures) ∙ c .enum-told2 .given .1) in
+    sym (sealed-open (a .text .now) (a .at) _ _ (counted k) no)
+
+add-closing : tie.Need-add-closing
+add-closing c = omega (arith, checked c .within)
+
+add-closing-2 : tie.Need-add-closing-2
+add-closing-2 c = omega (arith, checked c .within)
+
+closing-requires : tie.Need-closing-requires
+closing-requires c κs = search needs
+
+returns-3 : tie.Need-returns-3
+returns-3 c =
+    let k = c .before .before in
+    let l = counted (k .before .before .before .before .before) in
+    sym (sealed-step _ _ _ _ l _ _ (checked k) true (sym (c .before .closing .ensures) ∙ c .if1 .taken))
+
+returns-4 : tie.Need-returns-4
+returns-4 c =
+    let k = c .before .before in
+    let l = counted (k .before .before .before .before .before) in
+    sym (sealed-step _ _ _ _ l _ _ (checked k) false (sym (c .before .closing .ensures) ∙ c .if1 .left))
+
+pub sealed-at-spec : {M : Type 1} → statement M
+sealed-at-spec =
+    tie.close
+    (tie.spec
+    slice-aggregate-count-field
+    count-field-requires
+    enum-known-ctp
+    enum-told
+    returns
+    add-next
+    add-next-2
+    slice-aggregate-check-field
+    check-field-requires
+    enum-known-mac
+    enum-told-2
+    returns-2
+    add-closing
+    add-closing-2
+    closing-requires
+    returns-3
+    returns-4)

@@ -1,0 +1,4 @@
+pub mod Seen
+pub mod Stages
+pub mod Parts
+pub mod Claims
