@@ -1,0 +1,247 @@
+-- The changes of an entry keep it legal.
+use mathlib.Core.Path.{_≡_, refl, ap, _∙_}
+use mathlib.Core.Bool.{Bool, true, false, cond, not, _&&_}
+use Prim.Native.Nat.{ℕ, _+_, _≤_, _<_, max}
+use native.Mathlib.Nat.{le-max-left, max-le}
+use native.Mathlib.Omega.{arith}
+use lib.Dec.{eqb, leb}
+use borrow.Author.Tests.{le-leb, leb-true, lt-ltb, ne-eqb, eqb-false, not-true}
+use Rattle.octets.specs.Text.{within}
+use Rattle.octets.proofs.Comparing.{both}
+use Rattle.keying.specs.declared.Top.{Top}
+use Rattle.keying.specs.declared.Top.the-variants.{Single, Pair}
+use Rattle.keying.specs.Keys.{odd-top}
+use Rattle.partner.specs.declared.Name.{Name}
+use Rattle.partner.specs.declared.DataKey.{DataKey}
+use Rattle.partner.specs.declared.KeySet.{KeySet}
+use Rattle.partner.specs.declared.Entry.{Entry}
+use Rattle.partner.specs.Entry.{limit, risen, waiting, confirmed, broken, no-keys, one-key, two-keys, top-of}
+use Rattle.partner.specs.Legal.{exactly, is-filled, is-named, is-unused, set-named, set-clean, keys-formed}
+use Rattle.partner.specs.Legal.{names-formed, form-clean, unused-zero, top-odd}
+use Rattle.partner.specs.Legal.{counts-right, idle-right, outgoing-right}
+use Rattle.partner.specs.Legal.{incoming-right, legal}
+use Rattle.partner.specs.Changes.{sending, receiving, loaded, accepted, issued, settled, given-up, failed}
+
+-- ---- the rules one by one
+
+pub record Rules (e : Entry) : Type 0 where
+  pub identity-filled : is-filled (e .identity .bytes) ≡ true
+  pub name-filled : is-filled (e .name .bytes) ≡ true
+  pub outgoing-named : set-named (e .outgoing) ≡ true
+  pub incoming-named : set-named (e .incoming) ≡ true
+  pub form-clean : form-clean e ≡ true
+  pub outgoing-clean : set-clean (e .outgoing) ≡ true
+  pub incoming-clean : set-clean (e .incoming) ≡ true
+  pub top-odd : top-odd e ≡ true
+  pub next-right : within 1 limit (e .next) ≡ true
+  pub expected-right : within 1 limit (e .expected) ≡ true
+  pub idle-right : idle-right e ≡ true
+  pub outgoing-right : outgoing-right e ≡ true
+  pub incoming-right : incoming-right e ≡ true
+
+pub rules : (e : Entry) → legal e ≡ true → Rules e
+unfolding legal names-formed unused-zero counts-right
+rules e h =
+    let a = both _ (incoming-right e) h in
+    let b = both _ (outgoing-right e) (a .0) in
+    let c = both _ (idle-right e) (b .0) in
+    let d = both _ (counts-right e) (c .0) in
+    let f = both _ (top-odd e) (d .0) in
+    let g = both (names-formed e) (unused-zero e) (f .0) in
+    let n = both _ (set-named (e .incoming)) (g .0) in
+    let m = both _ (set-named (e .outgoing)) (n .0) in
+    let o = both (is-filled (e .identity .bytes)) (is-filled (e .name .bytes)) (m .0) in
+    let u = both _ (set-clean (e .incoming)) (g .1) in
+    let v = both (form-clean e) (set-clean (e .outgoing)) (u .0) in
+    let w = both (within 1 limit (e .next)) (within 1 limit (e .expected)) (d .1) in
+    record {
+      identity-filled = o .0;
+      name-filled = o .1;
+      outgoing-named = m .1;
+      incoming-named = n .1;
+      form-clean = v .0;
+      outgoing-clean = v .1;
+      incoming-clean = u .1;
+      top-odd = f .1;
+      next-right = w .0;
+      expected-right = w .1;
+      idle-right = c .1;
+      outgoing-right = b .1;
+      incoming-right = a .1;
+    }
+
+-- true joined with true
+join : {a b : Bool} → a ≡ true → b ≡ true → a && b ≡ true
+join {a} {b} h k = ap (λ (x : Bool). x && b) h ∙ k
+
+pub whole : (e : Entry) → Rules e → legal e ≡ true
+unfolding legal names-formed unused-zero counts-right
+whole e p =
+    join (join (join (join (join (join
+    (join (join (join (p .identity-filled) (p .name-filled)) (p .outgoing-named)) (p .incoming-named))
+    (join (join (p .form-clean) (p .outgoing-clean)) (p .incoming-clean)))
+    (p .top-odd)) (join (p .next-right) (p .expected-right))) (p .idle-right)) (p .outgoing-right)) (p .incoming-right)
+
+-- ---- counts and phases
+
+pub within-both : (low high x : ℕ) → within low high x ≡ true → (low ≤ x) × (x ≤ high)
+within-both low high x h =
+    let t = both (leb low x) (leb x high) h in
+    (leb-true low x (t .0), leb-true x high (t .1))
+
+pub both-within : (low high x : ℕ) → low ≤ x → x ≤ high → within low high x ≡ true
+both-within low high x h k = join (le-leb low x h) (le-leb x high k)
+
+pub risen-below : (n : ℕ) → n < limit → risen n ≡ n + 1
+unfolding risen
+risen-below n h = rw (lt-ltb n limit h)
+
+-- a key message that waits was sent, and has keys
+sent : (e : Entry) → Rules e → e .phase ≡ waiting → 2 ≤ e .next
+unfolding idle-right
+sent e p w =
+    let h : not (eqb (e .next) 1) ≡ true = rw w at (p .idle-right) in
+    let l = within-both 1 limit (e .next) (p .next-right) in
+    omega (arith, eqb-false (e .next) 1 (not-true (eqb (e .next) 1) h), l .0)
+
+keyed : (e : Entry) → Rules e → e .phase ≡ waiting → within 1 2 (e .outgoing .count) ≡ true
+unfolding outgoing-right
+keyed e p w = rw w at (p .outgoing-right)
+
+-- ---- key sets
+
+pub record Formed (set : KeySet) : Type 0 where
+  pub count : within 1 2 (set .count) ≡ true
+  pub named : set-named set ≡ true
+  pub clean : set-clean set ≡ true
+
+pub formed : (set : KeySet) → keys-formed set ≡ true → Formed set
+unfolding keys-formed
+formed set h =
+    let a = both _ (set-clean set) h in
+    let b = both (within 1 2 (set .count)) (set-named set) (a .0) in
+    record { count = b .0; named = b .1; clean = a .1 }
+
+pub one-formed : (k : DataKey) → is-named k ≡ true → keys-formed (one-key k) ≡ true
+unfolding keys-formed set-named set-clean is-unused
+one-formed k h = rw h
+
+pub two-formed : (k l : DataKey) → is-named k ≡ true → is-named l ≡ true → keys-formed (two-keys k l) ≡ true
+unfolding keys-formed set-named set-clean
+two-formed k l g h = rw (g, h)
+
+-- ---- the changes
+
+pub loaded-legal : (identity name : Name) (top : Top) → is-filled (identity .bytes) ≡ true
+    → is-filled (name .bytes) ≡ true → odd-top top ≡ true → legal (loaded identity name top) ≡ true
+unfolding loaded form-clean top-odd top-of set-named set-clean is-unused idle-right outgoing-right incoming-right
+loaded-legal identity name top a b c = whole (loaded identity name top) (record {
+  identity-filled = a;
+  name-filled = b;
+  outgoing-named = refl;
+  incoming-named = refl;
+  form-clean = clean top;
+  outgoing-clean = refl;
+  incoming-clean = refl;
+  top-odd = odd top c;
+  next-right = refl;
+  expected-right = refl;
+  idle-right = refl;
+  outgoing-right = refl;
+  incoming-right = refl;
+})
+  where
+    clean : (top : Top) → form-clean (loaded identity name top) ≡ true
+    clean (Single key) = refl
+    clean (Pair left right) = refl
+
+    odd : (top : Top) → odd-top top ≡ true → odd-top (top-of (loaded identity name top)) ≡ true
+    odd (Single key) c = c
+    odd (Pair left right) c = c
+
+-- the receiving side anew, with keys
+received : (e : Entry) (n : ℕ) (set : KeySet) → legal e ≡ true → 2 ≤ n → n ≤ limit → Formed set
+    → legal (receiving e n set) ≡ true
+unfolding receiving form-clean top-odd top-of idle-right outgoing-right incoming-right
+received e n set h l m f = let p = rules e h in whole (receiving e n set) (record {
+  identity-filled = p .identity-filled;
+  name-filled = p .name-filled;
+  outgoing-named = p .outgoing-named;
+  incoming-named = f .named;
+  form-clean = p .form-clean;
+  outgoing-clean = p .outgoing-clean;
+  incoming-clean = f .clean;
+  top-odd = p .top-odd;
+  next-right = p .next-right;
+  expected-right = both-within 1 limit n (omega arith) m;
+  idle-right = p .idle-right;
+  outgoing-right = p .outgoing-right;
+  incoming-right = rw (lt-ltb 1 n l) (f .count);
+})
+
+-- the sending side anew, in a phase other than 0
+sent-legal : (e : Entry) (n phase : ℕ) (set : KeySet) → legal e ≡ true → set-named set ≡ true → set-clean set ≡ true
+    → 2 ≤ n → n ≤ limit → exactly (eqb phase 0) false ≡ true
+    → (leb phase 3 && cond (within 1 2 phase) (within 1 2 (set .count)) (eqb (set .count) 0)) ≡ true
+    → legal (sending e n phase set) ≡ true
+unfolding sending form-clean top-odd top-of idle-right outgoing-right incoming-right
+sent-legal e n phase set h a b l m i o = let p = rules e h in whole (sending e n phase set) (record {
+  identity-filled = p .identity-filled;
+  name-filled = p .name-filled;
+  outgoing-named = a;
+  incoming-named = p .incoming-named;
+  form-clean = p .form-clean;
+  outgoing-clean = b;
+  incoming-clean = p .incoming-clean;
+  top-odd = p .top-odd;
+  next-right = both-within 1 limit n (omega arith) m;
+  expected-right = p .expected-right;
+  idle-right = rw (ne-eqb n 1 (λ e. omega arith)) i;
+  outgoing-right = o;
+  incoming-right = p .incoming-right;
+})
+
+pub accepted-legal : (e : Entry) (count : ℕ) (keys : KeySet) → legal e ≡ true → 1 ≤ count → count < limit
+    → keys-formed keys ≡ true → legal (accepted e count keys) ≡ true
+unfolding accepted
+accepted-legal e count keys h l m f =
+    let r = risen-below count m in
+    received e (risen count) keys h (omega arith) (omega arith) (formed keys f)
+
+pub issued-legal : (e : Entry) (keys : KeySet) → legal e ≡ true → e .next < limit → keys-formed keys ≡ true
+    → legal (issued e keys) ≡ true
+unfolding issued
+issued-legal e keys h m f =
+    let l = within-both 1 limit (e .next) (rules e h .next-right) in
+    let r = risen-below (e .next) m in
+    let k = formed keys f in
+    sent-legal e (risen (e .next)) waiting keys h (k .named) (k .clean) (omega (arith, l .0, r)) (omega (arith, r))
+    refl (k .count)
+
+pub settled-legal : (e : Entry) → legal e ≡ true → e .phase ≡ waiting → legal (settled e) ≡ true
+unfolding settled
+settled-legal e h w =
+    let p = rules e h in
+    sent-legal e (e .next) confirmed (e .outgoing) h (p .outgoing-named) (p .outgoing-clean) (sent e p w)
+    (within-both 1 limit (e .next) (p .next-right) .1) refl (keyed e p w)
+
+-- broken, with no keys
+broken-legal : (e : Entry) (n : ℕ) → legal e ≡ true → 2 ≤ n → n ≤ limit → legal (sending e n broken no-keys) ≡ true
+unfolding set-named set-clean is-unused
+broken-legal e n h l m = sent-legal e n broken no-keys h refl refl l m refl refl
+
+pub given-up-legal : (e : Entry) → legal e ≡ true → e .phase ≡ waiting → legal (given-up e) ≡ true
+unfolding given-up
+given-up-legal e h w =
+    let p = rules e h in
+    broken-legal e (e .next) h (sent e p w) (within-both 1 limit (e .next) (p .next-right) .1)
+
+pub failed-legal : (e : Entry) (x : ℕ) → legal e ≡ true → e .phase ≡ waiting → 1 ≤ x → x ≤ limit
+    → legal (failed e x) ≡ true
+unfolding failed
+failed-legal e x h w l m =
+    let p = rules e h in
+    let s = sent e p w in
+    let g = le-max-left (e .next) x in
+    let u = within-both 1 limit (e .next) (p .next-right) in
+    broken-legal e (max (e .next) x) h (omega (arith, s, g)) (max-le (u .1) m)

@@ -1,0 +1,9 @@
+pub mod Naming
+pub mod Testing
+pub mod Storing
+pub mod Keeping
+pub mod Fielding
+pub mod Joining
+pub mod Holding
+pub mod Determined
+pub mod Claims

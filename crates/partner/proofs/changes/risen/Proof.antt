@@ -1,0 +1,20 @@
+-- By the test of the limit.
+use borrow.Author.Tests.{lt-ltb, le-ltb}
+use borrow.Author.Needs.{needs}
+use Rattle.partner.specs.Entry.{risen}
+use Rattle.partner.proofs.changes.risen.Statement.{statement}
+use Rattle.partner.proofs.changes.risen.Tie as tie
+
+add-result : tie.Need-add-result
+add-result c = search needs
+
+returns : tie.Need-returns
+unfolding risen
+returns c = simp (lt-ltb _ _ (c .if1 .taken))
+
+returns-2 : tie.Need-returns-2
+unfolding risen
+returns-2 c = simp (le-ltb _ _ (c .if1 .left))
+
+pub risen-spec : {M : Type 1} → statement M
+risen-spec = tie.close (tie.spec add-result returns returns-2)

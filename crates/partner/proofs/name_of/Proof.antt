@@ -1,0 +1,22 @@
+-- The text is copied over 16 blanks.
+use mathlib.Core.Path.{_∙_}
+use borrow.Author.Needs.{needs}
+use Rattle.partner.specs.Entry.{filled}
+use Rattle.partner.proofs.Naming.{over-copies, name-as}
+use Rattle.partner.proofs.name_of.Statement.{statement}
+use Rattle.partner.proofs.name_of.Tie as tie
+
+slice-aggregate-copy : tie.Need-slice-aggregate-copy
+slice-aggregate-copy c = search needs
+
+copy-requires : tie.Need-copy-requires
+copy-requires c κs = search needs
+
+returns : tie.Need-returns
+unfolding filled
+returns c =
+    let w = c .before .before .before .before .args .w .now in
+    name-as (c .before .copy .ensures .0 ∙ over-copies w 16 32)
+
+pub name-of-spec : {M : Type 1} → statement M
+name-of-spec = tie.close (tie.spec slice-aggregate-copy copy-requires returns)

@@ -1,0 +1,6 @@
+pub mod Entry
+pub mod Legal
+pub mod Changes
+pub mod Record
+pub mod Held
+pub mod Claims

@@ -1,0 +1,154 @@
+// One partner's entry: its fields, when it is legal, its record's bytes, and the changes that the steps make.
+ghost use mathlib.Core.Path.{_≡_};
+ghost use Rattle.keying.specs.Keys.{listed};
+ghost use Rattle.partner.specs.Entry as entry;
+
+mod changes;
+mod record;
+mod rules;
+
+pub use changes::accepted;
+pub use changes::failed;
+pub use changes::given_up;
+pub use changes::issued;
+pub use changes::loaded;
+pub use changes::settled;
+use keying::DataKeys;
+use keying::Top;
+pub use record::entry_in;
+pub use record::put_entry;
+pub use rules::is_filled;
+pub use rules::legal;
+
+// A name or an identity, filled with blanks.
+pub struct Name {
+    pub bytes: [u8; 16],
+}
+
+// A data key, with a name or 16 blanks.
+pub struct DataKey {
+    pub key: u64,
+    pub name: Name,
+}
+
+// A key set: how many keys it has, and two places for them.
+pub struct KeySet {
+    pub count: u8,
+    pub first: DataKey,
+    pub second: DataKey,
+}
+
+// An entry of the partner table: identity, key name, key form, top key, next send and expected counts, phase, data
+// keys; an empty slot is zero throughout.
+pub struct Entry {
+    pub identity: Name,
+    pub name: Name,
+    pub form: u8,
+    pub left: u64,
+    pub right: u64,
+    pub next: u32,
+    pub expected: u32,
+    pub phase: u8,
+    pub outgoing: KeySet,
+    pub incoming: KeySet,
+}
+
+// ---- names and keys
+
+// A text filled with blanks to 16 bytes.
+pub fn name_of(w: &[u8]) -> Name
+    ensures { λ r. ⌜ r ≡ entry.name-of (now (w .entry)) ⌝ }
+{
+    let mut bytes = [b' '; 16];
+    octets::copy(&mut bytes, w);
+    Name { bytes: bytes }
+}
+
+// The top key, single or pair.
+pub fn top_of(e: Entry) -> Top
+    ensures { λ r. ⌜ r ≡ entry.top-of e ⌝ }
+{
+    if e.form == 2 {
+        Top::Pair(e.left, e.right)
+    } else {
+        Top::Single(e.left)
+    }
+}
+
+// The data keys of a set.
+pub fn data_keys(set: KeySet) -> DataKeys
+    ensures { λ r. ⌜ listed r ≡ entry.keys-in set ⌝ }
+{
+    let first = set.first;
+    let second = set.second;
+    if set.count == 0 {
+        return DataKeys::None;
+    }
+    if set.count == 1 {
+        return DataKeys::One(first.key);
+    }
+    DataKeys::Two(first.key, second.key)
+}
+
+// An unused key place.
+fn unused() -> DataKey
+    ensures { λ r. ⌜ r ≡ entry.unused ⌝ }
+{
+    DataKey {
+        key: 0,
+        name: Name { bytes: [0; 16] },
+    }
+}
+
+// A set of no keys.
+pub fn no_keys() -> KeySet
+    ensures { λ r. ⌜ r ≡ entry.no-keys ⌝ }
+{
+    KeySet {
+        count: 0,
+        first: unused(),
+        second: unused(),
+    }
+}
+
+// A set of one key.
+pub fn one_key(k: DataKey) -> KeySet
+    ensures { λ r. ⌜ r ≡ entry.one-key k ⌝ }
+{
+    KeySet {
+        count: 1,
+        first: k,
+        second: unused(),
+    }
+}
+
+// A set of two keys.
+pub fn two_keys(k: DataKey, l: DataKey) -> KeySet
+    ensures { λ r. ⌜ r ≡ entry.two-keys k l ⌝ }
+{
+    KeySet {
+        count: 2,
+        first: k,
+        second: l,
+    }
+}
+
+// An empty slot.
+pub fn empty() -> Entry
+    ensures { λ r. ⌜ r ≡ entry.empty ⌝ }
+{
+    let name = Name { bytes: [0; 16] };
+    let keys = no_keys();
+    Entry {
+        identity: name,
+        name: name,
+        form: 0,
+        left: 0,
+        right: 0,
+        next: 0,
+        expected: 0,
+        phase: 0,
+        outgoing: keys,
+        incoming: keys,
+    }
+}
