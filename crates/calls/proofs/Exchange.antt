@@ -1,0 +1,275 @@
+-- What one card builds the other accepts, and its reply is taken.
+use mathlib.Core.Path.{_≡_, refl, sym, ap, _∙_, subst}
+use mathlib.Core.Bool.{Bool, true, false, cond, not, _&&_, _||_}
+use mathlib.Core.List.{List, [], _∷_}
+use mathlib.Core.Option.{Option, none, some}
+use Prim.Native.Nat.{ℕ, _^_, _≤_, _<_}
+use Prim.Native.Char.{code}
+use native.Mathlib.Omega.{arith}
+use lib.Dec.{eqb}
+use Rattle.octets.specs.Text.{Text, same}
+use Rattle.octets.specs.Part.{bare}
+use Rattle.keying.specs.declared.Top.{Top}
+use Rattle.keying.specs.Parity.{odd}
+use Rattle.keying.specs.Keys.{working, seal, unseal}
+use Rattle.keying.specs.Mac.{mac-key, mac}
+use Rattle.keying.specs.Iv.{conceal, reveal}
+use Rattle.keying.specs.Date.{is-date}
+use Rattle.keying.proofs.Laws.{unseal-seal, reveal-conceal, conceal-lt}
+use Rattle.csm.specs.Fields.{named, hex-text}
+use Rattle.csm.specs.Message.{ksm, rsm, found}
+use Rattle.csm.specs.Covered.{covered}
+use Rattle.csm.proofs.TextLaws.{same-refl}
+use Rattle.csm.proofs.NumberLaws.{hex-number}
+use Rattle.csm.proofs.WordTests.{hex-passes}
+use Rattle.partner.specs.declared.Name.{Name}
+use Rattle.partner.specs.declared.KeySet.{KeySet}
+use Rattle.partner.specs.declared.Entry.{Entry}
+use Rattle.partner.specs.Entry.{name-of, top-of, keys-in, one-key, two-keys}
+use Rattle.partner.specs.Changes.{sending, accepted, issued}
+use Rattle.image.specs.Table.{Table}
+use Rattle.calls.specs.declared.KeyRequest.{KeyRequest}
+use Rattle.calls.specs.declared.Request.{Request}
+use Rattle.calls.specs.Words.{if_then_else_, any, some-has}
+use Rattle.calls.specs.Receive.{foreign, deciphered, uneven, kds, brought-key, brought, iv-value, iv-of}
+use Rattle.calls.specs.Receive.{bad-format, is-waiting}
+use Rattle.calls.specs.Build.{used, not-odd, wants-p, wants-idk1, wants-idk2, outgoing-key, outgoing-of}
+use Rattle.calls.specs.Build.{asked, kd-for, iv-for, ksm-text}
+use Rattle.calls.specs.Outcome.{keys}
+use Rattle.calls.specs.Calls.{receive, build-ksm, After, run}
+use Rattle.calls.specs.Claims.{Carries, Good-ksm, Accepts, Good-request, Partners, Sized, iv-asked, date-asked}
+use Rattle.calls.specs.Claims.{after-built, after-taken, Exchanged}
+use Rattle.calls.proofs.Requests.{Keyed, one, two, Formed, formed, not-two}
+use Rattle.calls.proofs.Tables.{own-name, entry-held, held-legal}
+use Rattle.calls.proofs.Written.{sent, sent-written, sent-sealed}
+use Rattle.calls.proofs.Accepting.{ksm-accepted, rsm-taken, request-built, request-good}
+use Rattle.calls.proofs.Effects.{run-effect}
+use Rattle.calls.proofs.Laws.{owns, legals}
+
+-- ---- keys and names arrive
+
+name-back : (b : Bool) (w : Text) → named (asked b w) ≡ cond b w []
+name-back true w = refl
+name-back false w = refl
+
+-- its KDs
+one-sent : (us : Text) (e : Entry) (q : Request) → eqb (q .count) 2 ≡ false
+    → kds (sent us e q) ≡ kd-for e (q .first) ∷ []
+unfolding sent
+one-sent us e q h = rw h
+
+two-sent : (us : Text) (e : Entry) (q : Request) → eqb (q .count) 2 ≡ true
+    → kds (sent us e q) ≡ kd-for e (q .first) ∷ kd-for e (q .second) ∷ []
+unfolding sent
+two-sent us e q h = rw h
+
+module _ (us : Text) (e f : Entry) (q : Request) (same-top : top-of e ≡ top-of f) where
+  key-back : (k : KeyRequest) → k .key < 2 ^ 64 → deciphered f (sent us e q) (kd-for e k) ≡ k .key
+  unfolding sent
+  key-back k h =
+      ap (λ (t : Top). unseal (working t (e .next)) (seal (working (top-of e) (e .next)) (k .key))) (sym same-top)
+      ∙ unseal-seal (working (top-of e) (e .next)) (k .key) h
+
+  data-key-back : (k : KeyRequest) → k .key < 2 ^ 64 → brought-key f (sent us e q) (kd-for e k) ≡ outgoing-key k
+  data-key-back k h = λ j. record {
+    key = key-back k h j;
+    name = name-of (name-back (wants-idk1 k) (bare (k .name .bytes)) j);
+  }
+
+  pub keys-back : Sized q → brought f (sent us e q) ≡ outgoing-of q
+  unfolding brought outgoing-of if_then_else_ sent
+  keys-back s = go (eqb (q .count) 2)
+    where
+      a : brought-key f (sent us e q) (kd-for e (q .first)) ≡ outgoing-key (q .first)
+      a = data-key-back (q .first) (s .first)
+
+      b : brought-key f (sent us e q) (kd-for e (q .second)) ≡ outgoing-key (q .second)
+      b = data-key-back (q .second) (s .second)
+
+      go : (x : Bool) → elim (asked x (kd-for e (q .second))) as (λ o. KeySet) [
+        | none ↦ one-key (brought-key f (sent us e q) (kd-for e (q .first)))
+        | some k ↦ two-keys (brought-key f (sent us e q) (kd-for e (q .first))) (brought-key f (sent us e q) k)
+      ]
+          ≡ (if x then two-keys (outgoing-key (q .first)) (outgoing-key (q .second)) else
+          one-key (outgoing-key (q .first)))
+      go true = λ j. two-keys (a j) (b j)
+      go false = λ j. one-key (a j)
+
+  -- ---- no foreign name, no uneven key
+
+  in-force : (b : Bool) → e .name ≡ f .name
+      → not (same (elim (asked b (bare (e .name .bytes))) as (λ o. Text) [ none ↦ bare (f .name .bytes) | some w ↦ w ])
+      (bare (f .name .bytes))) ≡ false
+  in-force true n =
+      ap (λ (x : Name). not (same (bare (x .bytes)) (bare (f .name .bytes)))) n
+      ∙ ap not (same-refl (bare (f .name .bytes)))
+  in-force false n = ap not (same-refl (bare (f .name .bytes)))
+
+  pub no-foreign : Keyed q → e .name ≡ f .name → any (foreign f) (kds (sent us e q)) ≡ false
+  unfolding any foreign
+  no-foreign (one p b) n =
+      ap (any (foreign f)) (one-sent us e q (not-two q p))
+      ∙ ap (λ (x : Bool). x || false) (in-force (wants-idk2 (q .first)) n)
+  no-foreign (two p r b c) n =
+      ap (any (foreign f)) (two-sent us e q r)
+      ∙ ap (λ (x : Bool). x || (foreign f (kd-for e (q .second)) || false)) (in-force (wants-idk2 (q .first)) n)
+      ∙ ap (λ (x : Bool). x || false) (in-force (wants-idk2 (q .second)) n)
+
+  uneven-back : (k : KeyRequest) → k .key < 2 ^ 64 → uneven f (sent us e q) (kd-for e k) ≡ not-odd k
+  unfolding uneven not-odd
+  uneven-back k h = ap (λ (x : ℕ). wants-p k && not (odd x)) (key-back k h)
+
+  pub no-uneven : Keyed q → Sized q → any not-odd (used q) ≡ false
+      → any (uneven f (sent us e q)) (kds (sent us e q)) ≡ false
+  unfolding any used if_then_else_
+  no-uneven (one p b) s h =
+      let a : not-odd (q .first) || false ≡ false = rw p at h in
+      ap (any (uneven f (sent us e q))) (one-sent us e q (not-two q p))
+      ∙ ap (λ (x : Bool). x || false) (uneven-back (q .first) (s .first)) ∙ a
+  no-uneven (two p r b c) s h =
+      let a : not-odd (q .first) || (not-odd (q .second) || false) ≡ false = rw (p, r) at h in
+      ap (any (uneven f (sent us e q))) (two-sent us e q r)
+      ∙ ap (λ (x : Bool). x || (uneven f (sent us e q) (kd-for e (q .second)) || false))
+      (uneven-back (q .first) (s .first))
+      ∙ ap (λ (x : Bool). not-odd (q .first) || (x || false)) (uneven-back (q .second) (s .second)) ∙ a
+
+-- ---- the IV and the date arrive
+
+plain-back : (ks : List ℕ) (n : ℕ) → n < 2 ^ 64 → iv-value ks (code "P" ∷ hex-text 16 n) ≡ some n
+unfolding iv-value if_then_else_
+plain-back ks n h = rw (hex-passes 16 n) (ap {B = Option ℕ} some (hex-number 16 n h))
+
+secret-back : (ks : List ℕ) (n : ℕ) → n < 2 ^ 64 → iv-value ks (code "E" ∷ hex-text 16 (conceal ks n)) ≡ some n
+unfolding iv-value if_then_else_
+secret-back ks n h =
+    rw (hex-passes 16 (conceal ks n))
+    (ap (λ (x : ℕ). some (reveal ks x)) (hex-number 16 (conceal ks n) (conceal-lt ks n))
+    ∙ ap {B = Option ℕ} some (reveal-conceal ks n h))
+
+-- what an IV is read as, if there is one
+abbrev iv-read : List ℕ → Option Text → Option ℕ
+iv-read ks o = elim o [ none ↦ none | some w ↦ iv-value ks w ]
+
+record Iv-back (ks : List ℕ) (o : Option Text) (n : Option ℕ) : Type 0 where
+  value : iv-read ks o ≡ n
+  format : some-has (λ w. not (found (iv-value ks w))) o ≡ false
+
+iv-some : (ks : List ℕ) (w : Text) (n : ℕ) → iv-value ks w ≡ some n → Iv-back ks (some w) (some n)
+unfolding some-has
+iv-some ks w n h = record { value = h; format = ap (λ (o : Option ℕ). not (found o)) h }
+
+iv-none : (ks : List ℕ) → Iv-back ks none none
+unfolding some-has
+iv-none ks = record { value = refl; format = refl }
+
+iv-back : (q : Request) → q .iv < 2 ^ 64 → Iv-back (keys-in (outgoing-of q)) (iv-for q) (iv-asked q)
+unfolding iv-for if_then_else_
+iv-back q h = go (eqb (q .kind) 1) (eqb (q .kind) 2)
+  where
+    go : (a b : Bool) → Iv-back (keys-in (outgoing-of q))
+        (if a then some (code "P" ∷ hex-text 16 (q .iv)) else
+        if b then some (code "E" ∷ hex-text 16 (conceal (keys-in (outgoing-of q)) (q .iv))) else none)
+        (asked (a || b) (q .iv))
+    go true b = iv-some (keys-in (outgoing-of q)) _ (q .iv) (plain-back (keys-in (outgoing-of q)) (q .iv) h)
+    go false true = iv-some (keys-in (outgoing-of q)) _ (q .iv) (secret-back (keys-in (outgoing-of q)) (q .iv) h)
+    go false false = iv-none (keys-in (outgoing-of q))
+
+date-back : (q : Request) → Formed q
+    → some-has (λ w. not (is-date w)) (asked (eqb (q .dated) 1) (q .date .digits)) ≡ false
+unfolding some-has
+date-back q f = go (eqb (q .dated) 1) (f .date)
+  where
+    go : (b : Bool) → b && not (is-date (q .date .digits)) ≡ false
+        → some-has (λ w. not (is-date w)) (asked b (q .date .digits)) ≡ false
+    go true h = h
+    go false h = refl
+
+format-back : (us : Text) (e : Entry) (q : Request) → Formed q → Sized q
+    → bad-format (outgoing-of q) (sent us e q) ≡ false
+unfolding bad-format sent
+format-back us e q f s = rw (iv-back q (s .iv) .format, date-back q f)
+
+pub iv-arrives : (us : Text) (e : Entry) (q : Request) → Sized q → iv-of (outgoing-of q) (sent us e q) ≡ iv-asked q
+unfolding sent
+iv-arrives us e q s = iv-back q (s .iv) .value
+
+pub date-arrives : (us : Text) (e : Entry) (q : Request) → sent us e q .edk ≡ date-asked q
+unfolding sent
+date-arrives us e q = refl
+
+-- ---- what was built is good
+
+sent-count : (us : Text) (e : Entry) (q : Request) → sent us e q .ctp ≡ e .next
+unfolding sent
+sent-count us e q = refl
+
+module _ (us : Text) (e f : Entry) (q : Request) (good : Good-request e q) (sized : Sized q) where
+  pub sent-good : (text : Text) → top-of e ≡ top-of f → e .name ≡ f .name → f .expected ≤ e .next
+      → sent us e q .mac ≡ mac (mac-key (keys-in (outgoing-of q))) (covered text) → Good-ksm f text (sent us e q)
+  sent-good text t n x s =
+      let d = formed q (good .formed) in
+      let k = keys-back us e f q t sized in
+      record {
+        names = no-foreign us e f q t (d .keys) n;
+        parity = no-uneven us e f q t (d .keys) sized (good .parity);
+        format = ap (λ (set : KeySet). bad-format set (sent us e q)) k ∙ format-back us e q d sized;
+        sealed = s ∙ ap (λ (set : KeySet). mac (mac-key (keys-in set)) (covered text)) (sym k);
+        fresh = let c = sent-count us e q in omega (arith, x);
+        not-last = let c = sent-count us e q in omega (arith, good .not-last);
+      }
+
+-- ---- the exchange
+
+issued-waits : (e : Entry) (set : KeySet) → is-waiting (issued e set) ≡ true
+unfolding issued sending is-waiting
+issued-waits e set = refl
+
+issued-outgoing : (e : Entry) (set : KeySet) → issued e set .outgoing ≡ set
+unfolding issued sending
+issued-outgoing e set = refl
+
+module _ (t u : Table) (e f : Entry) (q : Request) (room : ℕ) (p : Partners t u e f) (good : Good-request e q)
+    (sized : Sized q) (roomy : 256 ≤ room) where
+  accepts : Accepts (bare (u .own)) (bare (t .own)) f (sent (bare (t .own)) e q) (after-taken t u q room)
+  accepts =
+      let us = bare (t .own) in
+      let them = bare (u .own) in
+      let h = entry-held t them e (p .our-entry) in
+      let n = own-name t (p .ours) in
+      let l = held-legal t them e (p .ours) h in
+      let d = formed q (good .formed) in
+      let b = request-built t room them q e (p .ours) roomy (p .our-entry) good in
+      let c = subst (λ (x : Text). Carries us x (ksm (sent us e q)) (ksm-text us e q)) (h .bare-identity)
+      (sent-written us e n l q d) in
+      let g = sent-good us e f q good sized (ksm-text us e q) (p .same-top) (p .same-name) (p .in-step)
+      (sent-sealed us e n l q d) in
+      subst (λ (a : After). Accepts them us f (sent us e q) (run u (receive room (a .outcome .reply)))) (sym b)
+      (ksm-accepted u room (ksm-text us e q) us (sent us e q) f (p .theirs) roomy c (p .their-entry) g)
+
+  pub exchanged : Exchanged t u e f q room
+  exchanged =
+      let us = bare (t .own) in
+      let them = bare (u .own) in
+      let set = outgoing-of q in
+      let m = sent us e q in
+      let b = request-good t room them q e (p .ours) roomy (p .our-entry) good in
+      let a = accepts in
+      let k = keys-back us e f q (p .same-top) sized in
+      let c = rsm-taken (after-built t u q room .table) room (after-taken t u q room .outcome .reply) them (a .message)
+      (issued e set) (legals t _ _ _ (run-effect t (build-ksm room them q)) (p .ours)) roomy
+      (subst (λ (own : Text). Carries them (bare own) (rsm (a .message)) (after-taken t u q room .outcome .reply))
+      (sym (owns t _ _ _ (run-effect t (build-ksm room them q)))) (a .written))
+      (b .entry) (issued-waits e set)
+      (a .sealed ∙ ap (λ (s : KeySet). mac (mac-key (keys-in s)) (covered (after-taken t u q room .outcome .reply)))
+      (k ∙ sym (issued-outgoing e set))) in
+      record {
+        built = b .answered;
+        waiting = b .entry;
+        taken = a .answered;
+        returned = a .returned ∙ ap (λ (s : KeySet). keys (iv-of s m) (m .edk)) k
+            ∙ (λ j. keys (iv-arrives us e q sized j) (date-arrives us e q j));
+        received = a .entry ∙ ap (λ (s : KeySet). some (accepted f (m .ctp) s)) k
+            ∙ ap (λ (n : ℕ). some (accepted f n set)) (sent-count us e q);
+        confirmed = c .0;
+        settles = c .1;
+      }

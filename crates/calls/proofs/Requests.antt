@@ -1,0 +1,151 @@
+-- A request that is not malformed: the message built of it is legal, and its keys make a good set.
+use mathlib.Core.Path.{_≡_, refl}
+use mathlib.Core.Bool.{Bool, true, false, cond, not, _&&_, _||_, true≢false}
+use mathlib.Core.List.{[], _∷_}
+use mathlib.Core.Option.{Option, none, some}
+use Prim.Native.Nat.{ℕ, _<_, _^_}
+use Prim.Native.Char.{code}
+use lib.Dec.{eqb, ltb}
+use borrow.Author.Tests.{eqb-true, not-false}
+use Rattle.octets.specs.Text.{Text, is-run}
+use Rattle.octets.specs.Part.{bare}
+use Rattle.keying.specs.Iv.{conceal}
+use Rattle.keying.specs.Date.{is-date, is-day, is-time, two as pair-of}
+use Rattle.keying.proofs.Laws.{seal-lt}
+use Rattle.csm.specs.Format.{maybe-legal}
+use Rattle.csm.specs.Fields.{KD, IV, EDK, field, kd, legal-name}
+use Rattle.csm.specs.Message.{legal-body}
+use Rattle.csm.proofs.TextLaws.{and-true}
+use Rattle.partner.specs.declared.Entry.{Entry}
+use Rattle.partner.specs.Entry.{name-of, keys-in}
+use Rattle.partner.specs.Legal.{is-filled, is-named, keys-formed, legal}
+use Rattle.partner.proofs.Naming.{filled-name}
+use Rattle.partner.proofs.Keeping.{rules}
+use Rattle.partner.proofs.Claims.{claims}
+use Rattle.calls.specs.declared.KeyRequest.{KeyRequest}
+use Rattle.calls.specs.declared.Request.{Request}
+use Rattle.calls.specs.Words.{if_then_else_}
+use Rattle.calls.specs.Build.{used, bad-key, bad-keys, malformed, wants-idk1, wants-idk2}
+use Rattle.calls.specs.Build.{outgoing-key, outgoing-of, asked, kd-for, iv-for, ksm-body}
+use Rattle.calls.proofs.Tests.{or-split, by-case}
+use Rattle.calls.proofs.Names.{named-is-named}
+use Rattle.calls.proofs.Readings.{mac-legal, iv-legal, kd-legal}
+
+-- ---- one key or two
+
+pub data Keyed (q : Request) : Type 0 where
+  one : eqb (q .count) 1 ≡ true → bad-key (q .first) ≡ false → Keyed q
+  two : eqb (q .count) 1 ≡ false → eqb (q .count) 2 ≡ true → bad-key (q .first) ≡ false → bad-key (q .second) ≡ false
+      → Keyed q
+
+pub keyed : (q : Request) → bad-keys (used q) ≡ false → Keyed q
+unfolding used bad-keys if_then_else_
+keyed q h = go (eqb (q .count) 1) refl (eqb (q .count) 2) refl h
+  where
+    go : (a : Bool) → eqb (q .count) 1 ≡ a → (b : Bool) → eqb (q .count) 2 ≡ b
+        → bad-keys (if a then q .first ∷ [] else if b then q .first ∷ q .second ∷ [] else []) ≡ false → Keyed q
+    go true p b r h = one p h
+    go false p true r h =
+        let i = or-split (eqb (q .first .key) (q .second .key) || bad-key (q .first)) (bad-key (q .second)) h in
+        two p r (or-split (eqb (q .first .key) (q .second .key)) (bad-key (q .first)) (i .0) .1) (i .1)
+    go false p false r h = absurd (true≢false h)
+
+pub not-two : (q : Request) → eqb (q .count) 1 ≡ true → eqb (q .count) 2 ≡ false
+not-two q h = rw (eqb-true (q .count) 1 h)
+
+pub record Formed (q : Request) : Type 0 where
+  pub keys : Keyed q
+  pub date : eqb (q .dated) 1 && not (is-date (q .date .digits)) ≡ false
+
+pub formed : (q : Request) → malformed q ≡ false → Formed q
+unfolding malformed
+formed q h =
+    let a = or-split _ (eqb (q .dated) 1 && not (is-date (q .date .digits))) h in
+    let b = or-split _ (not (ltb (q .dated) 2)) (a .0) in
+    let c = or-split (bad-keys (used q)) (not (ltb (q .kind) 3)) (b .0) in
+    record { keys = keyed q (c .0); date = a .1 }
+
+-- ---- names
+
+-- the IDK1 that is written
+pub idk1-legal : (k : KeyRequest) → bad-key k ≡ false → legal-name (asked (wants-idk1 k) (bare (k .name .bytes))) ≡ true
+unfolding bad-key
+idk1-legal k h =
+    go (wants-idk1 k) (or-split (not (ltb (k .flags) 8)) (wants-idk1 k && not (is-filled (k .name .bytes))) h .1)
+  where
+    go : (b : Bool) → b && not (is-filled (k .name .bytes)) ≡ false
+        → legal-name (asked b (bare (k .name .bytes))) ≡ true
+    go true r = filled-name (k .name .bytes) (not-false (is-filled (k .name .bytes)) r)
+    go false r = refl
+
+idk2-legal : (e : Entry) (b : Bool) → legal e ≡ true → legal-name (asked b (bare (e .name .bytes))) ≡ true
+idk2-legal e true h = filled-name (e .name .bytes) (rules e h .name-filled)
+idk2-legal e false h = refl
+
+-- the name that an outgoing key is given
+outgoing-named : (k : KeyRequest) → bad-key k ≡ false → is-named (outgoing-key k) ≡ true
+outgoing-named k h = go (wants-idk1 k) (idk1-legal k h)
+  where
+    go : (b : Bool) → legal-name (asked b (bare (k .name .bytes))) ≡ true
+        → is-named (record { key = k .key; name = name-of (cond b (bare (k .name .bytes)) []) }) ≡ true
+    go true r = named-is-named (k .key) (some (bare (k .name .bytes))) r
+    go false r = named-is-named (k .key) none refl
+
+-- a set of one key or of two
+pub outgoing-formed : (q : Request) → Keyed q → keys-formed (outgoing-of q) ≡ true
+unfolding outgoing-of if_then_else_
+outgoing-formed q (one p h) =
+    rw (not-two q p) (claims .one-key-is-formed (outgoing-key (q .first)) (outgoing-named (q .first) h))
+outgoing-formed q (two p r h i) =
+    rw r (claims .two-keys-are-formed (outgoing-key (q .first)) (outgoing-key (q .second)) (outgoing-named (q .first) h)
+    (outgoing-named (q .second) i))
+
+-- ---- the message
+
+for-legal : (e : Entry) (k : KeyRequest) → legal e ≡ true → bad-key k ≡ false → kd .legal (kd-for e k) ≡ true
+for-legal e k h b =
+    kd-legal (kd-for e k) (seal-lt _ (k .key)) (idk1-legal k b)
+    (idk2-legal e (wants-idk2 k) h)
+
+second-legal : (e : Entry) (q : Request) → legal e ≡ true → Keyed q
+    → maybe-legal (field KD) (asked (eqb (q .count) 2) (kd-for e (q .second))) ≡ true
+second-legal e q h (one p a) = rw (not-two q p)
+second-legal e q h (two p r a b) = rw r (for-legal e (q .second) h b)
+
+iv-for-legal : (q : Request) → maybe-legal (field IV) (iv-for q) ≡ true
+unfolding iv-for
+iv-for-legal q =
+    by-case (λ (o : Option Text). maybe-legal (field IV) o ≡ true) _ _ _ (λ _. iv-legal (code "P") (q .iv) refl) λ _.
+    by-case (λ (o : Option Text). maybe-legal (field IV) o ≡ true) _ _ _
+    (λ _. iv-legal (code "E") (conceal (keys-in (outgoing-of q)) (q .iv)) refl) (λ _. refl)
+
+date-run : (s : Text) → is-date s ≡ true → is-run 0 12 12 s ≡ true
+unfolding is-date
+date-run s h =
+    let a = and-true _ (is-time (pair-of 6 s) (pair-of 8 s) (pair-of 10 s)) h in
+    and-true (is-run 0 12 12 s) (is-day (pair-of 0 s) (pair-of 2 s) (pair-of 4 s)) (a .0) .0
+
+date-legal : (q : Request) → Formed q → maybe-legal (field EDK) (asked (eqb (q .dated) 1) (q .date .digits)) ≡ true
+date-legal q f = go (eqb (q .dated) 1) (f .date)
+  where
+    go : (b : Bool) → b && not (is-date (q .date .digits)) ≡ false
+        → maybe-legal (field EDK) (asked b (q .date .digits)) ≡ true
+    go true r = date-run (q .date .digits) (not-false (is-date (q .date .digits)) r)
+    go false r = refl
+
+first-fine : (q : Request) → Keyed q → bad-key (q .first) ≡ false
+first-fine q (one p h) = h
+first-fine q (two p r h i) = h
+
+pub ksm-legal : (e : Entry) (q : Request) (m : ℕ) → legal e ≡ true → Formed q → m < 2 ^ 32
+    → legal-body (ksm-body e q m) ≡ true
+unfolding ksm-body
+ksm-legal e q m h f l =
+    rw (
+      for-legal e (q .first) h (first-fine q (f .keys)),
+      second-legal e q h (f .keys),
+      iv-for-legal q,
+      date-legal q f,
+      rules e h .next-right,
+      mac-legal m l,
+    )

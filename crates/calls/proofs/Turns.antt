@@ -1,0 +1,293 @@
+-- All that a turn can do to an entry: it refuses, complains, or makes one of the changes.
+use mathlib.Core.Path.{_≡_, refl, sym, ap, _∙_}
+use mathlib.Core.Bool.{Bool, true, false, cond, not, _&&_, true≢false}
+use mathlib.Core.List.{[]}
+use mathlib.Core.Option.{Option, none, some}
+use Prim.Native.Nat.{ℕ, _+_, _≤_, _<_}
+use native.Mathlib.Nat.{le-max-left}
+use native.Mathlib.Omega.{arith}
+use lib.Dec.{eqb, leb}
+use borrow.Author.Tests.{eqb-true, eqb-false, not-true, not-false, leb-true, ltb-false}
+use Rattle.octets.specs.Text.{Text, same, within, is-name}
+use Rattle.octets.specs.Part.{bare}
+use Rattle.csm.specs.Format.{value, maybe-legal}
+use Rattle.csm.specs.Fields.{KD, CTP, field, Kd, kd, svr}
+use Rattle.csm.specs.Message.{Body, Ksm, rsi, ksm, rsm, esm, option, legal-body, print}
+use Rattle.csm.proofs.TextLaws.{and-true, within-true}
+use Rattle.partner.specs.declared.KeySet.{KeySet}
+use Rattle.partner.specs.declared.Entry.{Entry}
+use Rattle.partner.specs.Entry.{limit, waiting}
+use Rattle.partner.specs.Legal.{is-named, keys-formed, legal}
+use Rattle.partner.specs.Changes.{sending, receiving, accepted, issued, settled, given-up, failed}
+use Rattle.partner.proofs.Keeping.{rules}
+use Rattle.partner.proofs.Claims.{claims}
+use Rattle.calls.specs.declared.Request.{Request}
+use Rattle.calls.specs.Outcome.{F, I, K, M, O, P, Told, nothing, failure, Turn, refusal, refused, done}
+use Rattle.calls.specs.Receive.{to-partner, esm-body, error, brought-key, brought, when, faults}
+use Rattle.calls.specs.Receive.{bad-format, bad-mac, bad-count, counts-for, judged, receive-ksm, is-waiting}
+use Rattle.calls.specs.Receive.{receive-rsm, after-esm, receive-esm, receive}
+use Rattle.calls.specs.Build.{outgoing-of, build-ksm, build-rsi, give-up}
+use Rattle.calls.specs.Claims.{Carries, Answers, Complains}
+use Rattle.calls.proofs.Tests.{or-split, by-case}
+use Rattle.calls.proofs.Names.{named-is-named}
+use Rattle.calls.proofs.Readings.{esm-legal, counted-legal, kd-name, ksm-parts, esm-count}
+use Rattle.calls.proofs.Requests.{formed, outgoing-formed}
+use Rattle.calls.proofs.Written.{to-them, rsm-written, sent, sent-written}
+
+-- ---- the changes
+
+pub data Change (e : Entry) : Entry → Type 0 where
+  stays : Change e e
+  takes : (n : ℕ) (set : KeySet) → keys-formed set ≡ true → 1 ≤ n → n < limit → e .expected ≤ n
+      → Change e (accepted e n set)
+  issues : (set : KeySet) → keys-formed set ≡ true → e .next < limit → Change e (issued e set)
+  settles : e .phase ≡ waiting → Change e (settled e)
+  gives-up : e .phase ≡ waiting → Change e (given-up e)
+  fails : (x : ℕ) → e .phase ≡ waiting → 1 ≤ x → x ≤ limit → Change e (failed e x)
+
+pub change-legal : (e f : Entry) → Change e f → legal e ≡ true → legal f ≡ true
+change-legal e f stays h = h
+change-legal e f (takes n set g c k l) h = claims .accepted-is-legal e n set h c k g
+change-legal e f (issues set g k) h = claims .issued-is-legal e set h k g
+change-legal e f (settles w) h = claims .settled-is-legal e h w
+change-legal e f (gives-up w) h = claims .given-up-is-legal e h w
+change-legal e f (fails x w j l) h = claims .failed-is-legal e x h w j l
+
+pub change-identity : (e f : Entry) → Change e f → f .identity ≡ e .identity
+unfolding accepted issued settled given-up failed sending receiving
+change-identity e f stays = refl
+change-identity e f (takes n set g c k l) = refl
+change-identity e f (issues set g k) = refl
+change-identity e f (settles w) = refl
+change-identity e f (gives-up w) = refl
+change-identity e f (fails x w j l) = refl
+
+-- counts do not fall
+pub change-counts : (e f : Entry) → Change e f → (e .next ≤ f .next) × (e .expected ≤ f .expected)
+unfolding accepted issued settled given-up failed sending receiving
+change-counts e f stays = (omega arith, omega arith)
+change-counts e f (takes n set g c k l) = let r = claims .rises-by-one n k in (omega arith, omega arith)
+change-counts e f (issues set g k) = let r = claims .rises-by-one (e .next) k in (omega arith, omega arith)
+change-counts e f (settles w) = (omega arith, omega arith)
+change-counts e f (gives-up w) = (omega arith, omega arith)
+change-counts e f (fails x w j l) = (le-max-left (e .next) x, omega arith)
+
+-- ---- what a turn does
+
+-- the numbers of refusals
+abbrev pub refusing : ℕ → Bool
+refusing n = not (eqb n 0) && not (eqb n 4) && leb n 13
+
+pub refusing-papers : (n : ℕ) → refusing n ≡ true → n ≤ 13
+refusing-papers n k = leb-true n 13 (and-true (not (eqb n 0) && not (eqb n 4)) (leb n 13) k .1)
+
+pub refusing-not-0 : (n : ℕ) → refusing n ≡ true → n ≡ 0 → ⊥
+refusing-not-0 n k =
+    let a = and-true (not (eqb n 0) && not (eqb n 4)) (leb n 13) k in
+    eqb-false n 0 (not-true (eqb n 0) (and-true (not (eqb n 0)) (not (eqb n 4)) (a .0) .0))
+
+pub refusing-not-4 : (n : ℕ) → refusing n ≡ true → n ≡ 4 → ⊥
+refusing-not-4 n k =
+    let a = and-true (not (eqb n 0) && not (eqb n 4)) (leb n 13) k in
+    eqb-false n 4 (not-true (eqb n 4) (and-true (not (eqb n 0)) (not (eqb n 4)) (a .0) .1))
+
+pub data Does (us : Text) (e : Entry) (R : Text → Type 0) : Turn → Type 0 where
+  refuses : (n : ℕ) → refusing n ≡ true → Does us e R (refused e n)
+  complains : (l : ℕ) (c : Option (ℕ × ℕ)) → (l ≡ 0 → ⊥) → legal-body (esm-body l c) ≡ true
+      → Does us e R (error us e l c)
+  does : (f : Entry) (s : Text) (o : Told) → Change e f → R s → Does us e R (done f s o)
+
+-- ---- receive
+
+-- a value is legal
+svr-legal : (w : Text) (s : ℕ) → value svr w ≡ some s → svr .legal s ≡ true
+svr-legal w s h = go (svr .legal (svr .guess w)) (same (svr .text (svr .guess w)) w) refl h
+  where
+    go : (a b : Bool) → svr .legal (svr .guess w) ≡ a → cond (a && b) (some (svr .guess w)) none ≡ some s
+        → svr .legal s ≡ true
+    go true true q h = let p : svr .guess w ≡ s = cc in ap (svr .legal) (sym p) ∙ q
+    go true false q h = absurd (let z : _≡_ {A = ℕ} 0 1 = cc in omega arith)
+    go false b q h = absurd (let z : _≡_ {A = ℕ} 0 1 = cc in omega arith)
+
+brought-formed : (e : Entry) (m : Ksm) → legal-body (ksm m) ≡ true → keys-formed (brought e m) ≡ true
+unfolding brought
+brought-formed e m h = let p = ksm-parts m h in go (m .second) refl (p .first) (p .second)
+  where
+    named : (k : Kd) → kd .legal k ≡ true → is-named (brought-key e m k) ≡ true
+    named k l = named-is-named _ (k .idk1) (kd-name k l)
+
+    go : (o : Option Kd) → m .second ≡ o → kd .legal (m .kd) ≡ true → maybe-legal (field KD) o ≡ true
+        → keys-formed (brought e m) ≡ true
+    go none q a b = rw q (claims .one-key-is-formed (brought-key e m (m .kd)) (named (m .kd) a))
+    go (some k) q a b =
+        rw q (claims .two-keys-are-formed (brought-key e m (m .kd)) (brought-key e m k) (named (m .kd) a) (named k b))
+
+-- the letters of F, M and P that hold, with counts where P does
+letters-legal : (a b c : Bool) (x y : ℕ) → within 1 limit x ≡ true → within 1 limit y ≡ true
+    → not (eqb (when a F + (when b M + when c P)) 0) ≡ true
+    → legal-body (esm-body (when a F + (when b M + when c P)) (cond c (some (x, y)) none)) ≡ true
+letters-legal true true true x y h i k = counted-legal 164 x y refl refl h i
+letters-legal true true false x y h i k = esm-legal 36 refl refl
+letters-legal true false true x y h i k = counted-legal 132 x y refl refl h i
+letters-legal true false false x y h i k = esm-legal 4 refl refl
+letters-legal false true true x y h i k = counted-legal 160 x y refl refl h i
+letters-legal false true false x y h i k = esm-legal 32 refl refl
+letters-legal false false true x y h i k = counted-legal 128 x y refl refl h i
+letters-legal false false false x y h i k = absurd (true≢false (sym k))
+
+-- where no letter stands, P does not
+no-P : (a b c : Bool) → eqb (when a F + (when b M + when c P)) 0 ≡ true → c ≡ false
+no-P a b false h = refl
+no-P true true true h = absurd (true≢false (sym h))
+no-P true false true h = absurd (true≢false (sym h))
+no-P false true true h = absurd (true≢false (sym h))
+no-P false false true h = absurd (true≢false (sym h))
+
+-- a count that is not the last is below it
+pub short-of-last : (n : ℕ) → within 1 limit n ≡ true → eqb n limit ≡ false → n < limit
+short-of-last n h k = omega (arith, within-true 1 limit n h .1, eqb-false n limit k)
+
+-- waiting is phase 1
+in-wait : (e : Entry) → not (is-waiting e) ≡ false → e .phase ≡ waiting
+unfolding is-waiting
+in-wait e h = eqb-true (e .phase) waiting (not-false (eqb (e .phase) waiting) h)
+
+module _ (us : Text) (e : Entry) (named : is-name us ≡ true) (lawful : legal e ≡ true) where
+  abbrev Replies : Body → Turn → Type 0
+  Replies b = Does us e (Answers us (bare (e .identity .bytes)) b)
+
+  judged-does : (text : Text) (m : Ksm) → legal-body (ksm m) ≡ true
+      → Replies (ksm m) (judged us e text m (brought e m))
+  unfolding judged faults bad-count
+  judged-does text m h =
+      let set = brought e m in
+      let c = ksm-parts m h .count in
+      by-case (Replies (ksm m)) _ _ _
+      (λ q. complains (faults e set text m) (counts-for e m) (eqb-false _ 0 (not-true _ q))
+      (letters-legal (bad-format set m) (bad-mac set text (m .mac)) (bad-count (e .expected) (m .ctp))
+      (e .expected) (m .ctp) (rules e lawful .expected-right) c q))
+      (λ q. let k = or-split _ _ (no-P (bad-format set m) (bad-mac set text (m .mac)) _ (not-false _ q)) in
+      let x = rsm-written us e named lawful set in
+      does _ _ _ (takes (m .ctp) set (brought-formed e m h) (within-true 1 limit (m .ctp) c .0)
+      (short-of-last (m .ctp) c (k .1)) (ltb-false (m .ctp) (e .expected) (k .0))) (x .0, x .1))
+
+  pub receive-does : (text : Text) (b : Body) → legal-body b ≡ true → Replies b (receive us e text b)
+  unfolding receive receive-ksm receive-rsm receive-esm
+  receive-does text (rsi m) h = does _ _ _ stays refl
+  receive-does text (ksm m) h =
+      by-case (Replies (ksm m)) _ _ _ (λ q. complains I none (eqb-false I 0 refl) (esm-legal I refl refl)) λ q.
+      by-case (Replies (ksm m)) _ _ _ (λ q. complains K none (eqb-false K 0 refl) (esm-legal K refl refl)) λ q.
+      judged-does text m h
+  receive-does text (rsm m) h =
+      by-case (Replies (rsm m)) _ _ _ (λ q. refuses 5 refl) λ w.
+      by-case (Replies (rsm m)) _ _ _ (λ q. complains M none (eqb-false M 0 refl) (esm-legal M refl refl)) λ q.
+      does _ _ _ (settles (in-wait e w)) refl
+  receive-does text (esm m) h =
+      by-case (Replies (esm m)) _ _ _ (λ q. refuses 5 refl) λ w.
+      go (in-wait e w) (m .ctp) refl (esm-count m h)
+    where
+      go : e .phase ≡ waiting → (o : Option ℕ) → m .ctp ≡ o → maybe-legal (field CTP) o ≡ true
+          → Replies (esm m) (done (after-esm e m) [] (failure (m .erf)))
+      go w none q l = does (after-esm e m) [] _ (rw q (gives-up w)) refl
+      go w (some x) q l =
+          let b = within-true 1 limit x l in
+          does (after-esm e m) [] _ (rw q (fails x w (b .0) (b .1))) refl
+  receive-does text (option c w) h = complains O none (eqb-false O 0 refl) (esm-legal O refl refl)
+
+  -- ---- build, give up
+
+  pub build-ksm-does : (q : Request)
+      → Does us e (λ s. (x : Ksm) × Carries us (bare (e .identity .bytes)) (ksm x) s) (build-ksm us e q)
+  unfolding build-ksm
+  build-ksm-does q =
+      by-case (Does us e _) _ _ _ (λ h. refuses 7 refl) λ h.
+      by-case (Does us e _) _ _ _ (λ h. refuses 8 refl) λ last.
+      by-case (Does us e _) _ _ _ (λ h. refuses 11 refl) λ h.
+      by-case (Does us e _) _ _ _ (λ h. refuses 12 refl) λ f.
+      does _ _ _ (issues (outgoing-of q) (outgoing-formed q (formed q f .keys))
+      (short-of-last (e .next) (rules e lawful .next-right) last))
+      (sent us e q, sent-written us e named lawful q (formed q f))
+
+  -- an RSI for that service
+  abbrev Builds-rsi : Text → Text → Type 0
+  Builds-rsi contents reply =
+      (s : ℕ) × (value svr contents ≡ some s)
+      × Carries us (bare (e .identity .bytes)) (rsi (record { svr = s; edc = none })) reply
+
+  pub build-rsi-does : (contents : Text)
+      → Does us e (Builds-rsi contents) (build-rsi us e contents)
+  unfolding build-rsi
+  build-rsi-does contents = go (value svr contents) refl
+    where
+      go : (o : Option ℕ) → value svr contents ≡ o
+          → Does us e (Builds-rsi contents)
+          (elim o [
+            | none ↦ refused e 12
+            | some s ↦ done e (print (to-partner us e (rsi (record { svr = s; edc = none })))) nothing
+          ])
+      go none q = refuses 12 refl
+      go (some s) q =
+          let b = rsi (record { svr = s; edc = none }) in
+          does _ _ _ stays (s, q, to-them us e named lawful b refl (rw (svr-legal contents s q)))
+
+pub give-up-does : (us : Text) (e : Entry) → Does us e (λ s. s ≡ []) (give-up e)
+unfolding give-up
+give-up-does us e =
+    by-case (Does us e (λ s. s ≡ [])) _ _ _ (λ h. refuses 5 refl) λ w.
+    does _ _ _ (gives-up (in-wait e w)) refl
+
+-- ---- what follows
+
+module _ {us : Text} {e : Entry} {R : Text → Type 0} where
+  pub does-change : (t : Turn) → Does us e R t → Change e (t .entry)
+  does-change t (refuses n k) = stays
+  does-change t (complains l c k b) = stays
+  does-change t (does f s o c r) = c
+
+  pub does-answer : (t : Turn) → Does us e R t → t .outcome .answer ≤ 13
+  does-answer t (refuses n k) = refusing-papers n k
+  does-answer t (complains l c k b) = omega arith
+  does-answer t (does f s o c r) = omega arith
+
+  -- unless it is done, the entry is as it was
+  pub does-keep : (t : Turn) → Does us e R t → (t .outcome .answer ≡ 0 → ⊥) → t .entry ≡ e
+  does-keep t (refuses n k) h = refl
+  does-keep t (complains l c k b) h = refl
+  does-keep t (does f s o c r) h = absurd (h refl)
+
+  -- a refusal is bare
+  pub does-bare : (t : Turn) → Does us e R t → (t .outcome .answer ≡ 0 → ⊥) → (t .outcome .answer ≡ 4 → ⊥)
+      → t .outcome ≡ refusal (t .outcome .answer)
+  does-bare t (refuses n k) h g = refl
+  does-bare t (complains l c k b) h g = absurd (g refl)
+  does-bare t (does f s o c r) h g = absurd (h refl)
+
+  -- what is done has its reply
+  pub does-reply : (t : Turn) → Does us e R t → t .outcome .answer ≡ 0 → R (t .outcome .reply)
+  does-reply t (refuses n k) h =
+      absurd (refusing-not-0 n k h)
+  does-reply t (complains l c k b) h = absurd (eqb-false 4 0 refl h)
+  does-reply t (does f s o c r) h = r
+
+  -- an error has its ESM
+  pub does-complain : (t : Turn) → is-name us ≡ true → legal e ≡ true → Does us e R t → t .outcome .answer ≡ 4
+      → Complains us (bare (e .identity .bytes)) (t .outcome)
+  does-complain t u l (refuses n k) h =
+      absurd (refusing-not-4 n k h)
+  does-complain t u l (complains n none k b) h = record {
+    message = record { ctp = none; ctr = none; erf = n; edc = none };
+    written = to-them us e u l (esm-body n none) refl b;
+    same-letters = refl;
+    some-letter = k;
+    no-edc = refl;
+    no-more = refl;
+  }
+  does-complain t u l (complains n (some (x, y)) k b) h = record {
+    message = record { ctp = some x; ctr = some y; erf = n; edc = none };
+    written = to-them us e u l (esm-body n (some (x, y))) refl b;
+    same-letters = refl;
+    some-letter = k;
+    no-edc = refl;
+    no-more = refl;
+  }
+  does-complain t u l (does f s o c r) h = absurd (eqb-false 0 4 refl h)

@@ -1,0 +1,115 @@
+-- Every call, and the order of its answers (document 01, "Answers").
+use mathlib.Core.Bool.{not, _&&_}
+use mathlib.Core.List.{List, [], _∷_}
+use mathlib.Core.Option.{Option, none, some}
+use Prim.Native.Nat.{ℕ, zero, suc}
+use lib.Dec.{ltb}
+use Rattle.octets.specs.Text.{Text, same, is-name}
+use Rattle.octets.specs.Part.{bare}
+use Rattle.keying.specs.declared.Top.{Top}
+use Rattle.keying.specs.Keys.{odd-top}
+use Rattle.csm.specs.Message.{Reading, read}
+use Rattle.partner.specs.declared.Entry.{Entry}
+use Rattle.partner.specs.Entry.{empty, filled, name-of}
+use Rattle.partner.specs.Changes.{loaded}
+use Rattle.image.specs.Table.{Table, legal, identities, differs, find, put, place}
+use Rattle.calls.specs.declared.Request.{Request}
+use Rattle.calls.specs.Words.{if_then_else_}
+use Rattle.calls.specs.Outcome.{Outcome, refusal, success, nothing, shown, Turn, done}
+use Rattle.calls.specs.Receive as by-class
+use Rattle.calls.specs.Build as building
+
+-- the calls with their arguments; identities and names are bare, a room is the length of the reply buffer
+pub data Call : Type 0 where
+  receive : ℕ → Text → Call
+  build-ksm : ℕ → Text → Request → Call
+  build-rsi : ℕ → Text → Text → Call
+  give-up : Text → Call
+  load : Text → Text → Top → Call
+  remove : Text → Call
+  ask : Text → Call
+
+-- what a call gives: its outcome, and the table after it
+pub record After : Type 0 where
+  pub outcome : Outcome
+  pub table : Table
+
+-- the answer n, the table as it was
+abbrev pub refuse : Table → ℕ → After
+refuse t n = record { outcome = refusal n; table = t }
+
+-- the table with other slots
+abbrev pub holding : Table → List Entry → Table
+holding t slots = record { own = t .own; slots = slots }
+
+-- ---- one partner's entry is looked up, turned and put back
+
+-- its partner by name; a malformed identity is nobody's
+abbrev pub entry-of : Text → Table → Option Entry
+entry-of id t = if is-name id then find (filled id) (t .slots) else none
+
+-- 3: partner not in the table
+abbrev pub turned : Table → Text → (Entry → Turn) → Option Entry → After
+turned t id turn none = refuse t 3
+turned t id turn (some e) =
+    record { outcome = turn e .outcome; table = holding t (put (filled id) (turn e .entry) (t .slots)) }
+
+unfoldable pub at-partner : Table → Text → (Entry → Turn) → After
+at-partner t id turn = turned t id turn (entry-of id t)
+
+-- 6: reply room under 256
+abbrev pub with-room : Table → ℕ → After → After
+with-room t room after = if ltb room 256 then refuse t 6 else after
+
+-- ---- receive: 1 (no message of this paper), 2 (RCV is not us), 3, then by class
+
+unfoldable pub receiving : Table → Text → Option Reading → After
+receiving t text none = refuse t 1
+receiving t text (some r) =
+    if not (same (r .rcv) (bare (t .own))) then refuse t 2 else
+    at-partner t (r .org) (λ e. by-class.receive (bare (t .own)) e text (r .body))
+
+-- ---- load: 10 (identity malformed, our own, or taken), 12 (key name), 11 (top key), 9 (64 entries in use)
+
+abbrev pub placed : Table → Option (List Entry) → After
+placed t none = refuse t 9
+placed t (some slots) = record { outcome = success [] nothing; table = holding t slots }
+
+unfoldable pub loading : Table → Text → Text → Top → After
+loading t id name top =
+    if not (is-name id && differs (filled id) (t .own ∷ identities (t .slots))) then refuse t 10 else
+    if not (is-name name) then refuse t 12 else
+    if not (odd-top top) then refuse t 11 else
+    placed t (place (loaded (name-of id) (name-of name) top) (t .slots))
+
+-- ---- remove and ask for an entry: 3
+
+abbrev pub emptied : Entry → Turn
+emptied e = done empty [] nothing
+
+abbrev pub told : Entry → Turn
+told e = done e [] (shown e)
+
+-- ---- every call in a legal table
+
+unfoldable pub perform : Table → Call → After
+perform t (receive room text) = with-room t room (receiving t text (read text))
+perform t (build-ksm room id q) = with-room t room (at-partner t id (λ e. building.build-ksm (bare (t .own)) e q))
+perform t (build-rsi room id svr) =
+    with-room t room (at-partner t id (λ e. building.build-rsi (bare (t .own)) e svr))
+perform t (give-up id) = at-partner t id building.give-up
+perform t (load id name top) = loading t id name top
+perform t (remove id) = at-partner t id emptied
+perform t (ask id) = at-partner t id told
+
+-- any call that is lent a table tests 13 before all else
+unfoldable pub run : Table → Call → After
+run t c = if legal t then perform t c else refuse t 13
+
+-- start: 10; a table with our identity and 64 empty slots
+abbrev pub empties : ℕ → List Entry
+empties zero = []
+empties (suc n) = empty ∷ empties n
+
+unfoldable pub start : Text → Option Table
+start own = if is-name own then some (record { own = filled own; slots = empties 64 }) else none

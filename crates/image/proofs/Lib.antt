@@ -1,0 +1,13 @@
+pub mod Steps
+pub mod Entries
+pub mod Slots
+pub mod Images
+pub mod Shifts
+pub mod Spots
+pub mod Edits
+pub mod Gaps
+pub mod Passes
+pub mod Legality
+pub mod Updates
+pub mod Buffers
+pub mod Claims

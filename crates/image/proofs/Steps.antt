@@ -1,0 +1,173 @@
+-- One step of each loop over the records, and parts of an image.
+use mathlib.Core.Path.{_≡_, refl, sym, ap, _∙_}
+use mathlib.Core.Bool.{Bool, true, false, cond, not, _&&_}
+use mathlib.Core.List.{[], _∷_}
+use mathlib.Core.Option.{Option, none, some}
+use Prim.Native.Nat.{ℕ, zero, suc, _+_, _-_, _≤_, _<_, min}
+use native.Mathlib.Omega.{arith}
+use lib.Dec.{eqb, ltb, leb}
+use lib.ListN.{length, take, drop, getD, length-drop, drop-of-length-le}
+use lib.Seq.{take-all}
+use borrow.Author.Tests.{eq-eqb, ne-eqb, le-leb, lt-leb, leb-true, leb-false}
+use Rattle.octets.specs.Text.{Text}
+use Rattle.partner.specs.Legal as rule
+use Rattle.image.specs.declared.Place.the-variants.{At, Nothing}
+use Rattle.image.specs.Image.{record-length, found}
+use Rattle.image.specs.Places.{own-in, is-partner, seek, seek-free, entry-at}
+use Rattle.image.specs.Pass.{identity-at, apart-from, front-legal, record-legal}
+use Rattle.image.specs.Results.{placed}
+
+-- ---- bytes and parts
+
+-- a byte that is there, where it is not 0
+pub kind-within : (s : Text) (at k : ℕ) → getD s at 0 ≡ suc k → at < length s
+kind-within s at k h = go s at h
+  where
+    go : (s : Text) (at : ℕ) → getD s at 0 ≡ suc k → at < length s
+    go [] at h = absurd (let z : _≡_ {A = ℕ} 0 (suc k) = h in omega arith)
+    go (x ∷ s) zero h = omega arith
+    go (x ∷ s) (suc at) h = let i = go s at h in omega arith
+
+take-min : (k : ℕ) (l : Text) → take (min k (length l)) l ≡ take k l
+take-min k l = go (leb k (length l)) refl
+  where
+    go : (b : Bool) → leb k (length l) ≡ b → take (min k (length l)) l ≡ take k l
+    go true e =
+        let h = leb-true k (length l) e in
+        let i : min k (length l) ≡ k = omega arith in
+        ap (λ (j : ℕ). take j l) i
+    go false e =
+        let h = leb-false k (length l) e in
+        let i : min k (length l) ≡ length l = omega arith in
+        ap (λ (j : ℕ). take j l) i ∙ take-all (length l) l (omega arith) ∙ sym (take-all k l (omega arith))
+
+drop-min : (k : ℕ) (l : Text) → drop (min k (length l)) l ≡ drop k l
+drop-min k l = go (leb k (length l)) refl
+  where
+    go : (b : Bool) → leb k (length l) ≡ b → drop (min k (length l)) l ≡ drop k l
+    go true e =
+        let h = leb-true k (length l) e in
+        let i : min k (length l) ≡ k = omega arith in
+        ap (λ (j : ℕ). drop j l) i
+    go false e =
+        let h = leb-false k (length l) e in
+        let i : length l ≤ min k (length l) = omega arith in
+        let j : length l ≤ k = omega arith in
+        drop-of-length-le l i ∙ sym (drop-of-length-le l j)
+
+pub part-of : (s : Text) (at k : ℕ) → take (min k (length s - min at (length s))) (drop (min at (length s)) s)
+    ≡ take k (drop at s)
+part-of s at k =
+    let r = drop (min at (length s)) s in
+    ap (λ (n : ℕ). take (min k n) r) (sym (length-drop (min at (length s)) s)) ∙ take-min k r
+    ∙ ap (take k) (drop-min at s)
+
+-- behind the end nothing is left
+pub past-end : (s : Text) (at : ℕ) → length s ≤ at → drop at s ≡ drop (at + 1) s
+past-end s at h =
+    let k : length s ≤ at + 1 = omega arith in
+    drop-of-length-le s h ∙ sym (drop-of-length-le s k)
+
+-- ---- the length of a record
+
+pub length-two : (kind : ℕ) → kind ≡ 2 → record-length kind ≡ 157
+unfolding record-length
+length-two kind h = rw (eq-eqb kind 2 h)
+
+pub length-other : (kind : ℕ) → (kind ≡ 2 → ⊥) → record-length kind ≡ 1
+unfolding record-length
+length-other kind h = rw (ne-eqb kind 2 h)
+
+pub length-small : (kind : ℕ) → record-length kind ≤ 157
+unfolding record-length
+length-small kind = go (eqb kind 2)
+  where
+    go : (b : Bool) → cond b 157 1 ≤ 157
+    go true = omega arith
+    go false = omega arith
+
+-- ---- the searches
+
+pub seek-end : (n at : ℕ) (id s : Text) → n ≡ 0 → seek n at id s ≡ none
+unfolding seek
+seek-end n at id s h = rw h
+
+module _ (n at : ℕ) (id s : Text) (more : 0 < n) where
+  one : n ≡ suc (n - 1)
+  one = omega arith
+
+  seek-open : seek n at id s ≡ cond (is-partner at id s) (some at) (seek (n - 1) (at + record-length (getD s at 0)) id s)
+  unfolding seek
+  seek-open = ap (λ (m : ℕ). seek m at id s) one
+
+  pub seek-hit : is-partner at id s ≡ true → seek n at id s ≡ some at
+  seek-hit h = seek-open ∙ ap (λ (b : Bool). cond b (some at) (seek (n - 1) (at + record-length (getD s at 0)) id s)) h
+
+  pub seek-miss : is-partner at id s ≡ false → seek n at id s ≡ seek (n - 1) (at + record-length (getD s at 0)) id s
+  seek-miss h = seek-open ∙ ap (λ (b : Bool). cond b (some at) (seek (n - 1) (at + record-length (getD s at 0)) id s)) h
+
+pub free-end : (n at : ℕ) (s : Text) → n ≡ 0 → seek-free n at s ≡ none
+unfolding seek-free
+free-end n at s h = rw h
+
+module _ (n at : ℕ) (s : Text) (more : 0 < n) where
+  one-free : n ≡ suc (n - 1)
+  one-free = omega arith
+
+  free-open : seek-free n at s
+      ≡ cond (eqb (getD s at 0) 0) (some at) (seek-free (n - 1) (at + record-length (getD s at 0)) s)
+  unfolding seek-free
+  free-open = ap (λ (m : ℕ). seek-free m at s) one-free
+
+  pub free-hit : getD s at 0 ≡ 0 → seek-free n at s ≡ some at
+  free-hit h = free-open ∙ rw (eq-eqb (getD s at 0) 0 h)
+
+  pub free-miss : (getD s at 0 ≡ 0 → ⊥) → seek-free n at s ≡ seek-free (n - 1) (at + record-length (getD s at 0)) s
+  free-miss h = free-open ∙ rw (ne-eqb (getD s at 0) 0 h)
+
+-- ---- found or not
+
+pub was-nothing : (o : Option ℕ) → placed o ≡ Nothing → o ≡ none
+was-nothing none h = refl
+was-nothing (some at) h = absurd (let z : _≡_ {A = ℕ} 0 1 = cc in omega arith)
+
+pub was-at : (o : Option ℕ) (at : ℕ) → placed o ≡ At at → o ≡ some at
+was-at none at h = absurd (let z : _≡_ {A = ℕ} 0 1 = cc in omega arith)
+was-at (some k) at h = let e : k ≡ at = cc in ap {B = Option ℕ} some e
+
+pub nothing-there : (o : Option ℕ) → placed o ≡ Nothing → not (found o) ≡ true
+nothing-there o h = ap (λ (p : Option ℕ). not (found p)) (was-nothing o h)
+
+pub at-there : (o : Option ℕ) (at : ℕ) → placed o ≡ At at → not (found o) ≡ false
+at-there o at h = ap (λ (p : Option ℕ). not (found p)) (was-at o at h)
+
+-- ---- the front
+
+pub front-other : (s : Text) → (getD s 0 0 ≡ 1 → ⊥) → front-legal s ≡ false
+unfolding front-legal
+front-other s h = rw (ne-eqb (getD s 0 0) 1 h)
+
+pub front-ours : (s : Text) → getD s 0 0 ≡ 1
+    → front-legal s ≡ rule.is-filled (own-in s) && apart-from 64 17 (own-in s) s
+unfolding front-legal
+front-ours s h = rw (eq-eqb (getD s 0 0) 1 h)
+
+-- ---- a record
+
+module _ (n at : ℕ) (s : Text) where
+  pub legal-vacant : getD s at 0 ≡ 0 → record-legal n at s ≡ ltb at (length s)
+  unfolding record-legal
+  legal-vacant h = rw (eq-eqb (getD s at 0) 0 h)
+
+  pub legal-other : (getD s at 0 ≡ 0 → ⊥) → (getD s at 0 ≡ 2 → ⊥) → record-legal n at s ≡ false
+  unfolding record-legal
+  legal-other h k = rw (ne-eqb (getD s at 0) 0 h, ne-eqb (getD s at 0) 2 k)
+
+  pub legal-short : getD s at 0 ≡ 2 → length s < at + 157 → record-legal n at s ≡ false
+  unfolding record-legal
+  legal-short h k = rw (h, lt-leb (at + 157) (length s) k)
+
+  pub legal-whole : getD s at 0 ≡ 2 → at + 157 ≤ length s → record-legal n at s
+      ≡ rule.legal (entry-at at s) && apart-from n (at + 157) (identity-at at s) s
+  unfolding record-legal
+  legal-whole h k = rw (h, le-leb (at + 157) (length s) k)

@@ -1,0 +1,64 @@
+-- `image::front_legal` meets its contract, test by test.
+use mathlib.Core.Path.{_≡_, sym, ap, _∙_}
+use mathlib.Core.Bool.{Bool, true, false, _&&_}
+use borrow.Author.Needs.{needs}
+use lib.ListN.{getD}
+use Rattle.octets.specs.Text.{Text}
+use Rattle.partner.specs.Legal.{is-filled}
+use Rattle.image.specs.Places.{own-in}
+use Rattle.image.specs.Pass.{apart-from}
+use Rattle.image.proofs.Steps.{front-other, front-ours}
+use Rattle.image.proofs.front_legal.Statement.{statement}
+use Rattle.image.proofs.front_legal.Tie as tie
+
+byte-at-requires : tie.Need-byte-at-requires
+byte-at-requires c κs = search needs
+
+returns : tie.Need-returns
+returns c =
+    let im : Text = c .before .before .before .args .image .now in
+    sym (front-other im (λ z. c .if1 .taken (c .before .byte-at .ensures ∙ z)))
+
+own-identity-requires : tie.Need-own-identity-requires
+own-identity-requires c κs = search needs
+
+is-filled-requires : tie.Need-is-filled-requires
+is-filled-requires c κs = search needs
+
+is-apart-requires : tie.Need-is-apart-requires
+is-apart-requires c κs = search needs
+
+returns-2 : tie.Need-returns-2
+returns-2 c =
+    let im : Text = c .before .before .before .before .before .before .before .args .image .now in
+    let own : Text = own-in im in
+    let ours = c .before .before .before .before in
+    let k : getD im 0 0 ≡ 1 = sym (ours .before .byte-at .ensures) ∙ ours .if1 .left in
+    let p = c .before .before .before .own-identity .ensures in
+    let f : is-filled own ≡ true =
+    ap is-filled (sym p) ∙ sym (c .before .before .is-filled .ensures) ∙ c .before .if2 .taken in
+    c .is-apart .ensures ∙ ap (λ (t : Text). apart-from 64 17 t im) p
+    ∙ sym (front-ours im k ∙ ap (λ (b : Bool). b && apart-from 64 17 own im) f)
+
+returns-3 : tie.Need-returns-3
+returns-3 c =
+    let im : Text = c .before .before .before .before .before .before .args .image .now in
+    let own : Text = own-in im in
+    let ours = c .before .before .before in
+    let k : getD im 0 0 ≡ 1 = sym (ours .before .byte-at .ensures) ∙ ours .if1 .left in
+    let p = c .before .before .own-identity .ensures in
+    let f : is-filled own ≡ false =
+    ap is-filled (sym p) ∙ sym (c .before .is-filled .ensures) ∙ c .if2 .left in
+    c .if2 .left ∙ sym (front-ours im k ∙ ap (λ (b : Bool). b && apart-from 64 17 own im) f)
+
+pub front-legal-spec : {M : Type 1} → statement M
+front-legal-spec =
+    tie.close
+    (tie.spec
+    byte-at-requires
+    returns
+    own-identity-requires
+    is-filled-requires
+    is-apart-requires
+    returns-2
+    returns-3)

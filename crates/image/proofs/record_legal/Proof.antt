@@ -1,0 +1,102 @@
+-- `image::record_legal` meets its contract, test by test.
+use mathlib.Core.Path.{_≡_, sym, ap, _∙_}
+use mathlib.Core.Bool.{Bool, true, false, _&&_}
+use Prim.Native.Nat.{_+_}
+use borrow.Author.Needs.{needs}
+use lib.ListN.{getD}
+use Rattle.octets.specs.Text.{Text}
+use Rattle.partner.specs.Legal.{legal}
+use Rattle.image.specs.Pass.{identity-at, apart-from}
+use Rattle.image.specs.Places.{entry-at}
+use Rattle.image.proofs.Steps.{legal-vacant, legal-other, legal-short, legal-whole}
+use Rattle.image.proofs.record_legal.Statement.{statement}
+use Rattle.image.proofs.record_legal.Tie as tie
+
+byte-at-requires : tie.Need-byte-at-requires
+byte-at-requires c κs = search needs
+
+returns : tie.Need-returns
+returns c =
+    let a = c .before .before .before .args in
+    let im : Text = a .image .now in
+    let kind = c .before .byte-at .ensures in
+    sym (legal-vacant (a .left) (a .at) im (sym kind ∙ c .if1 .taken))
+
+returns-2 : tie.Need-returns-2
+returns-2 c =
+    let a = c .before .before .before .before .args in
+    let im : Text = a .image .now in
+    let kind = c .before .before .byte-at .ensures in
+    sym (legal-other (a .left) (a .at) im (λ z. c .before .if1 .left (kind ∙ z)) (λ z. c .if2 .taken (kind ∙ z)))
+
+add-if3 : tie.Need-add-if3
+add-if3 c = search needs
+
+returns-3 : tie.Need-returns-3
+returns-3 c =
+    let a = c .before .before .before .before .before .args in
+    let im : Text = a .image .now in
+    let kind = c .before .before .before .byte-at .ensures in
+    sym (legal-short (a .left) (a .at) im (sym kind ∙ c .before .if2 .left) (c .if3 .taken))
+
+entry-at-requires : tie.Need-entry-at-requires
+entry-at-requires c κs = search needs
+
+legal-requires : tie.Need-legal-requires
+legal-requires c κs = search needs
+
+add-part : tie.Need-add-part
+add-part c = search needs
+
+part-requires : tie.Need-part-requires
+part-requires c κs = search needs
+
+add-is-apart : tie.Need-add-is-apart
+add-is-apart c = search needs
+
+is-apart-requires : tie.Need-is-apart-requires
+is-apart-requires c κs = search needs
+
+returns-4 : tie.Need-returns-4
+returns-4 c =
+    let a = c .before .before .before .before .before .before .before .before .before .before .args in
+    let im : Text = a .image .now in
+    let kind = c .before .before .before .before .before .before .before .before .byte-at .ensures in
+    let e = c .before .before .before .before .entry-at .ensures in
+    let l : legal (entry-at (a .at) im) ≡ true =
+    ap legal (sym e) ∙ sym (c .before .before .before .legal .ensures) ∙ c .before .before .if4 .taken in
+    let id : Text = identity-at (a .at) im in
+    let fits = c .before .before .before .before .before in
+    let whole = legal-whole (a .left) (a .at) im (sym kind ∙ fits .before .if2 .left) (fits .if3 .left) in
+    c .is-apart .ensures ∙ ap (λ (t : Text). apart-from (a .left) (a .at + 157) t im) (c .before .part .ensures)
+    ∙ sym (whole ∙ ap (λ (b : Bool). b && apart-from (a .left) (a .at + 157) id im) l)
+
+returns-5 : tie.Need-returns-5
+returns-5 c =
+    let a = c .before .before .before .before .before .before .before .before .args in
+    let im : Text = a .image .now in
+    let kind = c .before .before .before .before .before .before .byte-at .ensures in
+    let e = c .before .before .entry-at .ensures in
+    let l : legal (entry-at (a .at) im) ≡ false = ap legal (sym e) ∙ sym (c .before .legal .ensures) ∙ c .if4 .left in
+    let id : Text = identity-at (a .at) im in
+    let fits = c .before .before .before in
+    let whole = legal-whole (a .left) (a .at) im (sym kind ∙ fits .before .if2 .left) (fits .if3 .left) in
+    c .if4 .left ∙ sym (whole ∙ ap (λ (b : Bool). b && apart-from (a .left) (a .at + 157) id im) l)
+
+pub record-legal-spec : {M : Type 1} → statement M
+record-legal-spec =
+    tie.close
+    (tie.spec
+    byte-at-requires
+    returns
+    returns-2
+    add-if3
+    returns-3
+    entry-at-requires
+    legal-requires
+    add-part
+    part-requires
+    add-is-apart
+    is-apart-requires
+    returns-4
+    returns-5)

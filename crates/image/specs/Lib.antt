@@ -1,0 +1,6 @@
+pub mod Table
+pub mod Image
+pub mod Places
+pub mod Pass
+pub mod Results
+pub mod Claims

@@ -1,0 +1,187 @@
+-- Every call of a card is local to one partner's entry.
+use mathlib.Core.Path.{_≡_, refl, _∙_, subst}
+use mathlib.Core.Bool.{Bool, true, false, not}
+use mathlib.Core.List.{List, [], _∷_}
+use mathlib.Core.Logic.{_≢_}
+use mathlib.Core.Option.{Option, none, some}
+use Prim.Native.Nat.{ℕ}
+use lib.Dec.{eqb, ltb}
+use borrow.Author.Tests.{not-false}
+use Rattle.octets.specs.Text.{Text, same, is-name}
+use Rattle.octets.specs.Part.{bare}
+use Rattle.octets.proofs.Comparing.{same-equal, same-differs, differs-same}
+use Rattle.keying.specs.declared.Top.{Top}
+use Rattle.csm.specs.Message.{Reading, read}
+use Rattle.csm.proofs.TextLaws.{and-true, same-refl}
+use Rattle.csm.proofs.MessageLaws.{read-back, legal-parts}
+use Rattle.partner.specs.declared.Entry.{Entry}
+use Rattle.partner.specs.Entry.{empty, filled, name-of}
+use Rattle.partner.specs.Changes.{loaded}
+use Rattle.image.specs.Table.{Table, legal, identities, differs, put, place}
+use Rattle.calls.specs.Words.{if_then_else_}
+use Rattle.calls.specs.Receive as by-class
+use Rattle.calls.specs.Build as building
+use Rattle.calls.specs.Calls.{Call, receive, build-ksm, build-rsi, give-up, load, remove, ask, After, refuse, holding}
+use Rattle.calls.specs.Calls.{entry-of, turned, at-partner, receiving, placed, loading, emptied, told, perform, run}
+use Rattle.calls.specs.Claims.{Row}
+use Rattle.calls.proofs.Tests.{by-case}
+use Rattle.partner.proofs.Naming.{filled-filled}
+use Rattle.calls.proofs.Slots.{row-empty}
+use Rattle.calls.proofs.Identities.{find-none, place-places, row-place}
+use Rattle.calls.proofs.Tables.{entry-held}
+use Rattle.line.specs.Line.{_∈_, count-from, counted, Allowed}
+use Rattle.line.proofs.CardSlots.{find-placed, entry-named}
+use Rattle.line.proofs.CardTurn.{counts, silent}
+use Rattle.line.proofs.CardTurn.{receive-event, build-ksm-event, build-rsi-event, give-up-event}
+use Rattle.line.proofs.CardEvent.{no-texts}
+use Rattle.line.proofs.CardCall.{Local, elsewhere, loads, idle, us-named, other-stays}
+use Rattle.line.proofs.CardCall.{entry-local}
+
+-- a partner that was loaded was not there, and is there as loading makes it
+pub record Loads (id key-name : Text) (key : Top) (t : Table) (m : List Entry) : Type 0 where
+  pub absent : entry-of id t ≡ none
+  pub present : entry-of id (holding t m) ≡ some (loaded (name-of id) (name-of key-name) key)
+  pub others : Row (filled id) (t .slots) m
+
+pub loads-one : (id key-name : Text) (key : Top) (t : Table) (m : List Entry) → is-name id ≡ true
+    → differs (filled id) (identities (t .slots)) ≡ true
+    → place (loaded (name-of id) (name-of key-name) key) (t .slots) ≡ some m → Loads id key-name key t m
+unfolding loaded
+loads-one id key-name key t m named free h =
+    let none-there = find-none (filled id) (filled-filled id named) (t .slots) free in
+    let places = place-places (loaded (name-of id) (name-of key-name) key) (t .slots) m h in
+    record {
+      absent = entry-named id t named ∙ none-there;
+      present = entry-named id (holding t m) named
+          ∙ find-placed (loaded (name-of id) (name-of key-name) key) places none-there;
+      others = row-place (loaded (name-of id) (name-of key-name) key) places;
+    }
+
+module _ (name : Text) (top : Top) (us other : Text) (l : List Text) (t : Table) where
+  -- what a call about the entry may say of its result
+  abbrev Fits : Call → After → Type 0
+  Fits c y = Local name top us other l t y (counted other c (y .outcome .answer))
+
+  module _ (ours : bare (t .own) ≡ us) (fine : legal t ≡ true) where
+    -- ---- receive
+
+    receive-local : (room : ℕ) (text : Text) → Allowed name top other l (receive room text)
+        → Fits (receive room text) (receiving t text (read text))
+    unfolding Allowed receiving counted count-from if_then_else_
+    receive-local room text may = go (read text) refl
+      where
+        away-count : (r : Reading) → read text ≡ some r → r .org ≢ other → (n : ℕ)
+            → counted other (receive room text) n ≡ []
+        away-count r q away n = rw (q, differs-same (r .org) other away) (nothing (eqb n 0))
+          where
+            nothing : (b : Bool) → _≡_ {A = List ℕ} (if b then [] else []) []
+            nothing true = refl
+            nothing false = refl
+
+        for-us : (r : Reading) → read text ≡ some r → r .rcv ≡ us
+            → Fits (receive room text) (at-partner t (r .org) (λ e. by-class.receive (bare (t .own)) e text (r .body)))
+        for-us r q to-us =
+            entry-local name top us other l t ours fine (receive room text) (r .org)
+            (λ e. by-class.receive (bare (t .own)) e text (r .body)) (counts (r .body))
+            (λ e lawful them.
+            rw ours
+            (receive-event us e (λ u. r .org ≡ other → u ∈ l) (us-named name top us other l t ours fine) lawful text
+            (may r q) (r .body) (rw (them, ← to-us) q)
+            (legal-parts r (read-back text r q .0) .body)))
+            (λ io x. rw (q, io, same-refl other))
+            (away-count r q)
+
+        go : (o : Option Reading) → read text ≡ o → Fits (receive room text) (receiving t text o)
+        go none q = idle name top us other l t (receive room text) 1 refl
+        go (some r) q =
+            by-case (Fits (receive room text)) (not (same (r .rcv) (bare (t .own)))) (refuse t 2)
+            (at-partner t (r .org) (λ e. by-class.receive (bare (t .own)) e text (r .body)))
+            (λ p. idle name top us other l t (receive room text) 2 refl)
+            (λ p. for-us r q (same-equal (r .rcv) (bare (t .own)) (not-false _ p) ∙ ours))
+
+    -- ---- load
+
+    load-local : (id key-name : Text) (key : Top) → Allowed name top other l (load id key-name key)
+        → Fits (load id key-name key) (loading t id key-name key)
+    unfolding Allowed loading counted
+    load-local id key-name key may =
+        let refuses = idle name top us other l t (load id key-name key) in
+        by-case (Fits (load id key-name key)) _ _ _ (λ p. refuses 10 refl) (λ p.
+        by-case (Fits (load id key-name key)) _ _ _ (λ q. refuses 12 refl) (λ q.
+        by-case (Fits (load id key-name key)) _ _ _ (λ r. refuses 11 refl) (λ r.
+        let h = and-true (is-name id) (differs (filled id) (t .own ∷ identities (t .slots))) (not-false _ p) in
+        go (h .0) (and-true (not (same (t .own) (filled id))) (differs (filled id) (identities (t .slots))) (h .1) .1)
+        (place (loaded (name-of id) (name-of key-name) key) (t .slots)) refl)))
+      where
+        go : is-name id ≡ true → differs (filled id) (identities (t .slots)) ≡ true
+            → (o : Option (List Entry)) → place (loaded (name-of id) (name-of key-name) key) (t .slots) ≡ o
+            → Fits (load id key-name key) (placed t o)
+        go named free none h = idle name top us other l t (load id key-name key) 9 refl
+        go named free (some m) h = by-same (same id other) refl
+          where
+            f : Loads id key-name key t m
+            f = loads-one id key-name key t m named free h
+
+            by-same : (b : Bool) → same id other ≡ b → Fits (load id key-name key) (placed t (some m))
+            by-same true q =
+                let io : id ≡ other = same-equal id other q in
+                let k = may io in
+                loads refl (subst (λ (w : Text). entry-of w t ≡ none) io (f .absent))
+                (rw (k .0, k .1, io) at (f .present)) refl refl
+            by-same false q =
+                elsewhere refl
+                (other-stays name top us other l t ours fine id m named (same-differs id other q) (f .others))
+                (λ x i. absurd (no-texts [] x refl i)) refl
+
+    -- ---- remove
+
+    remove-local : (id : Text) → Allowed name top other l (remove id)
+        → Fits (remove id) (at-partner t id emptied)
+    unfolding Allowed at-partner counted
+    remove-local id away = go (entry-of id t) refl
+      where
+        go : (o : Option Entry) → entry-of id t ≡ o → Fits (remove id) (turned t id emptied o)
+        go none h = idle name top us other l t (remove id) 3 refl
+        go (some e) h =
+            let named : is-name id ≡ true = entry-held t id e h .name in
+            elsewhere refl
+            (other-stays name top us other l t ours fine id (put (filled id) empty (t .slots)) named away
+            (row-empty (filled id) (t .slots)))
+            (λ x i. absurd (no-texts [] x refl i)) refl
+
+    -- ---- every call in a legal table
+
+    perform-local : (c : Call) → Allowed name top other l c → Fits c (perform t c)
+    unfolding perform Allowed counted
+    perform-local (receive room text) may =
+        by-case (Fits (receive room text)) (ltb room 256) (refuse t 6) (receiving t text (read text))
+        (λ p. idle name top us other l t (receive room text) 6 refl) (λ p. receive-local room text may)
+    perform-local (build-ksm room id q) may =
+        by-case (Fits (build-ksm room id q)) _ _ _ (λ p. idle name top us other l t (build-ksm room id q) 6 refl)
+        (λ p. entry-local name top us other l t ours fine (build-ksm room id q) id
+        (λ e. building.build-ksm (bare (t .own)) e q) (λ x. [])
+        (λ e lawful them.
+        rw ours (build-ksm-event us e _ (us-named name top us other l t ours fine) lawful q may))
+        (λ io x. refl) (λ away n. refl))
+    perform-local (build-rsi room id s) may =
+        by-case (Fits (build-rsi room id s)) _ _ _ (λ p. idle name top us other l t (build-rsi room id s) 6 refl)
+        (λ p. entry-local name top us other l t ours fine (build-rsi room id s) id
+        (λ e. building.build-rsi (bare (t .own)) e s) (λ x. [])
+        (λ e lawful them. rw ours (build-rsi-event us e _ (us-named name top us other l t ours fine) lawful s))
+        (λ io x. refl) (λ away n. refl))
+    perform-local (give-up id) may =
+        entry-local name top us other l t ours fine (give-up id) id building.give-up (λ x. [])
+        (λ e lawful them. give-up-event us e _ (us-named name top us other l t ours fine) lawful)
+        (λ io x. refl) (λ away n. refl)
+    perform-local (load id key-name key) may = load-local id key-name key may
+    perform-local (remove id) may = remove-local id may
+    perform-local (ask id) may =
+        entry-local name top us other l t ours fine (ask id) id told (λ x. []) (λ e lawful them. silent _ refl)
+        (λ io x. refl) (λ away n. refl)
+
+  -- any call of a card with this identity
+  pub run-local : (c : Call) → bare (t .own) ≡ us → Allowed name top other l c → Fits c (run t c)
+  unfolding run
+  run-local c ours may =
+      by-case (Fits c) (legal t) (perform t c) (refuse t 13) (λ fine. perform-local ours fine c may)
+      (λ p. idle name top us other l t c 13 refl)

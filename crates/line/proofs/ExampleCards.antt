@@ -1,0 +1,155 @@
+-- Two cards, of MILL and HARBOR, with real keys and texts: each call by computation.
+use mathlib.Core.Path.{_≡_, refl}
+use mathlib.Core.List.{[], _∷_}
+use mathlib.Core.Option.{none}
+use Prim.Native.Nat.{ℕ}
+use Rattle.octets.specs.Text.{Text, ascii}
+use Rattle.keying.specs.declared.Top.{Top}
+use Rattle.keying.specs.declared.Top.the-variants.{Pair}
+use Rattle.keying.specs.Parity.{odd, odd-byte}
+use Rattle.keying.specs.Keys.{odd-top, unseal}
+use Rattle.csm.specs.Message.{read}
+use Rattle.csm.specs.Covered.{covered}
+use Rattle.partner.specs.declared.DataKey.{DataKey}
+use Rattle.partner.specs.declared.KeySet.{KeySet}
+use Rattle.partner.specs.declared.Entry.{Entry}
+use Rattle.partner.specs.Entry.{waiting, confirmed, broken, empty, filled, name-of, risen}
+use Rattle.partner.specs.Entry.{no-keys, two-keys}
+use Rattle.partner.specs.Changes.{sending, receiving as receiving-side, accepted, issued, settled, given-up}
+use Rattle.partner.specs.Legal as partner
+use Rattle.partner.specs.Record.{place-bytes, set-bytes, top-bytes, front-bytes, count-bytes, entry-bytes}
+use Rattle.image.specs.Table.{Table, is-empty, slots-legal, legal}
+use Rattle.calls.specs.declared.KeyRequest.{KeyRequest}
+use Rattle.calls.specs.declared.Request.{Request}
+use Rattle.calls.specs.Words.{any, some-has}
+use Rattle.calls.specs.Outcome.{success, nothing, keys, confirmation}
+use Rattle.calls.specs.Receive as by-class
+use Rattle.calls.specs.Build as building
+use Rattle.calls.specs.Calls.{receive, build-ksm, give-up, load, at-partner, receiving, loading, perform, run}
+use Rattle.calls.specs.Calls.{empties}
+use Rattle.calls.proofs.Example as worked
+use Rattle.calls.proofs.Example.{MILL, HARBOR}
+use Rattle.line.specs.Line.{entry-for}
+
+-- what is opened for a call to be computed
+unfoldable pub computes : Unit {0}
+unfolding
+    worked.computes odd odd-byte odd-top unseal read covered empty risen sending receiving-side accepted issued settled given-up
+    partner.is-filled partner.is-named partner.set-named partner.names-formed partner.is-unused partner.set-clean
+    partner.form-clean partner.unused-zero partner.top-odd partner.counts-right partner.idle-right
+    partner.outgoing-right partner.incoming-right partner.legal
+    entry-bytes front-bytes count-bytes set-bytes place-bytes top-bytes is-empty slots-legal legal any some-has
+    by-class.foreign by-class.uneven by-class.brought by-class.bad-format by-class.bad-mac
+    by-class.bad-count by-class.faults by-class.judged by-class.receive-ksm by-class.is-waiting by-class.receive-rsm
+    by-class.receive
+    building.used building.not-odd building.bad-key building.bad-keys building.malformed building.build-ksm building.give-up
+    at-partner receiving loading perform run
+computes = tt
+
+-- ---- the pair that they share, and its name
+
+abbrev pub key-name : Text
+key-name = ascii "K1"
+
+abbrev pub pair : Top
+pair = Pair 0x0123456789ABCDEF 0xFEDCBA9876543210
+
+-- ---- two requests: other keys, with the same exclusive-or
+
+abbrev pub asked : ℕ → ℕ → Text → KeyRequest
+asked value flags name = record { key = value; flags = flags; name = name-of name }
+
+abbrev pub request : KeyRequest → KeyRequest → Request
+request k l = record {
+  count = 2;
+  first = k;
+  second = l;
+  kind = 0;
+  iv = 0;
+  dated = 0;
+  date = record { digits = ascii "000000000000" };
+}
+
+abbrev pub first-request : Request
+first-request = request (asked 0x1122334455667788 2 (ascii "ONE")) (asked 0x99AABBCCDDEEFF00 0 [])
+
+abbrev pub second-request : Request
+second-request = request (asked 0x1E2C3E485E6C7E80 0 []) (asked 0x96A4B6C0D6E4F608 0 [])
+
+abbrev pub data-key : ℕ → Text → DataKey
+data-key value name = record { key = value; name = name-of name }
+
+abbrev pub first-keys : KeySet
+first-keys = two-keys (data-key 0x1122334455667788 (ascii "ONE")) (data-key 0x99AABBCCDDEEFF00 [])
+
+abbrev pub second-keys : KeySet
+second-keys = two-keys (data-key 0x1E2C3E485E6C7E80 []) (data-key 0x96A4B6C0D6E4F608 [])
+
+-- ---- the texts
+
+abbrev pub first-ksm : Text
+first-ksm =
+    ascii "CSM(MCL/KSM RCV/HARBOR ORG/MILL KD/3EB3B72576BBBE83..ONE KD/5601104F2DF94405 CTP/1 MAC/3130 F0C0 )"
+
+abbrev pub second-ksm : Text
+second-ksm = ascii "CSM(MCL/KSM RCV/HARBOR ORG/MILL KD/91244E2E40DC0C9F KD/8B22C6A850812124 CTP/2 MAC/8535 60F0 )"
+
+-- under both requests' keys
+abbrev pub answering-rsm : Text
+answering-rsm = ascii "CSM(MCL/RSM RCV/MILL ORG/HARBOR MAC/9635 9AC3 )"
+
+-- ---- the tables: started, and with one entry
+
+abbrev pub started : Text → Table
+started own = record { own = filled own; slots = empties 64 }
+
+abbrev pub holds : Text → Entry → Table
+holds own e = record { own = filled own; slots = e ∷ empties 63 }
+
+abbrev pub mill : ℕ → ℕ → KeySet → Table
+mill next phase outgoing = holds MILL (sending (entry-for key-name pair HARBOR) next phase outgoing)
+
+abbrev pub harbor : ℕ → KeySet → Table
+harbor expected incoming = holds HARBOR (receiving-side (entry-for key-name pair MILL) expected incoming)
+
+-- ---- the calls
+
+pub mill-loads : run (started MILL) (load HARBOR key-name pair)
+    ≡ record { outcome = success [] nothing; table = mill 1 0 no-keys }
+unfolding computes
+mill-loads = refl
+
+pub harbor-loads : run (started HARBOR) (load MILL key-name pair)
+    ≡ record { outcome = success [] nothing; table = harbor 1 no-keys }
+unfolding computes
+harbor-loads = refl
+
+pub mill-builds : run (mill 1 0 no-keys) (build-ksm 256 HARBOR first-request)
+    ≡ record { outcome = success first-ksm nothing; table = mill 2 waiting first-keys }
+unfolding computes
+mill-builds = refl
+
+pub harbor-takes : run (harbor 1 no-keys) (receive 256 first-ksm)
+    ≡ record { outcome = success answering-rsm (keys none none); table = harbor 2 first-keys }
+unfolding computes
+harbor-takes = refl
+
+pub mill-confirms : run (mill 2 waiting first-keys) (receive 256 answering-rsm)
+    ≡ record { outcome = success [] confirmation; table = mill 2 confirmed first-keys }
+unfolding computes
+mill-confirms = refl
+
+pub mill-gives-up : run (mill 2 waiting first-keys) (give-up HARBOR)
+    ≡ record { outcome = success [] nothing; table = mill 2 broken no-keys }
+unfolding computes
+mill-gives-up = refl
+
+pub mill-builds-again : run (mill 2 broken no-keys) (build-ksm 256 HARBOR second-request)
+    ≡ record { outcome = success second-ksm nothing; table = mill 3 waiting second-keys }
+unfolding computes
+mill-builds-again = refl
+
+pub mill-confirms-others : run (mill 3 waiting second-keys) (receive 256 answering-rsm)
+    ≡ record { outcome = success [] confirmation; table = mill 3 confirmed second-keys }
+unfolding computes
+mill-confirms-others = refl

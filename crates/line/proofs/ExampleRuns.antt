@@ -1,0 +1,180 @@
+-- The theorem says something: a run that meets its premises and ends confirmed. And it needs the premise on MACs: a run
+-- that meets all the others ends with A confirmed in keys that B does not hold.
+use mathlib.Core.Path.{_≡_, refl, sym, ap, _∙_, subst}
+use mathlib.Core.List.{List, [], _∷_, _++_, List·Memᴰ·head, List·Memᴰ·eq-of-singleton}
+use mathlib.Core.Option.{some}
+use Prim.Native.Nat.{ℕ}
+use native.Mathlib.Omega.{arith}
+use Rattle.octets.specs.Text.{Text}
+use Rattle.csm.specs.Message.{read}
+use Rattle.partner.specs.declared.KeySet.{KeySet}
+use Rattle.partner.specs.declared.Entry.{Entry}
+use Rattle.partner.specs.Entry.{waiting, confirmed, broken, no-keys}
+use Rattle.partner.specs.Changes.{sending, receiving as receiving-side}
+use Rattle.image.specs.Table.{Table}
+use Rattle.calls.specs.Words.{if_then_else_}
+use Rattle.calls.specs.Calls.{Call, receive, build-ksm, give-up, load, After, entry-of, run, start}
+use Rattle.calls.proofs.Example.{MILL, HARBOR}
+use Rattle.line.specs.Line.{State, texts, count-in, count-from, counted, In-64-bits, Allowed}
+use Rattle.line.specs.Line.{entry-for, Reach, begin, step-a, step-b, Afresh, Distinct, Agreed}
+use Rattle.line.proofs.CardFresh as fresh
+use Rattle.line.proofs.Theorem.{agreement}
+use Rattle.line.proofs.ExampleCards.{computes, key-name, pair, first-request, second-request}
+use Rattle.line.proofs.ExampleCards.{first-keys, second-keys, first-ksm, second-ksm, answering-rsm, started}
+use Rattle.line.proofs.ExampleCards.{mill, harbor, mill-loads, harbor-loads, mill-builds, harbor-takes}
+use Rattle.line.proofs.ExampleCards.{mill-confirms, mill-gives-up, mill-builds-again, mill-confirms-others}
+
+-- ---- the beginning: both cards are started
+
+abbrev pub state : Table → Table → List Text → List Text → List ℕ → State
+state a b from-a from-b taken = record { a = a; b = b; from-a = from-a; from-b = from-b; accepted = taken }
+
+abbrev pub both-started : State
+both-started = state (started MILL) (started HARBOR) [] [] []
+
+starts-mill : start MILL ≡ some (started MILL)
+unfolding start if_then_else_
+starts-mill = refl
+
+starts-harbor : start HARBOR ≡ some (started HARBOR)
+unfolding start if_then_else_
+starts-harbor = refl
+
+pub afresh : Afresh MILL HARBOR key-name pair both-started
+afresh = record {
+  card-a = fresh.started key-name pair MILL HARBOR (started MILL) starts-mill;
+  card-b = fresh.started key-name pair HARBOR MILL (started HARBOR) starts-harbor;
+  a-silent = refl;
+  b-silent = refl;
+  none-accepted = refl;
+}
+
+-- ---- a step whose call was computed
+
+abbrev pub Run : State → State → Type 0
+Run s₀ s = Reach MILL HARBOR key-name pair s₀ s
+
+abbrev pub after-mill : State → After → State
+after-mill s y = state (y .table) (s .b) (texts (y .outcome .reply) ++ s .from-a) (s .from-b) (s .accepted)
+
+abbrev pub after-harbor : State → Call → After → State
+after-harbor s c y =
+    state (s .a) (y .table) (s .from-a) (texts (y .outcome .reply) ++ s .from-b)
+    (counted MILL c (y .outcome .answer) ++ s .accepted)
+
+pub at-mill : {s₀ : State} (s : State) (c : Call) (y : After) → run (s .a) c ≡ y
+    → Allowed key-name pair HARBOR (s .from-b) c → Run s₀ s → Run s₀ (after-mill s y)
+at-mill {s₀} s c y e may r = subst (λ (x : After). Run s₀ (after-mill s x)) e (step-a r c may)
+
+pub at-harbor : {s₀ : State} (s : State) (c : Call) (y : After) → run (s .b) c ≡ y
+    → Allowed key-name pair MILL (s .from-a) c → Run s₀ s → Run s₀ (after-harbor s c y)
+at-harbor {s₀} s c y e may r = subst (λ (x : After). Run s₀ (after-harbor s c x)) e (step-b r c may)
+
+-- ---- both load; MILL builds, HARBOR takes and answers
+
+first-small : In-64-bits first-request
+first-small = record { first = omega arith; second = omega arith }
+
+second-small : In-64-bits second-request
+second-small = record { first = omega arith; second = omega arith }
+
+count-of-first : count-from MILL (read first-ksm) ≡ 1 ∷ []
+unfolding computes count-from count-in
+count-of-first = refl
+
+abbrev pub answered : State
+answered = state (mill 2 waiting first-keys) (harbor 2 first-keys) (first-ksm ∷ []) (answering-rsm ∷ []) (1 ∷ [])
+
+loaded-run : Run both-started (state (mill 1 0 no-keys) (harbor 1 no-keys) [] [] [])
+unfolding texts counted Allowed
+loaded-run =
+    at-harbor (state (mill 1 0 no-keys) (started HARBOR) [] [] []) (load MILL key-name pair) _ harbor-loads
+    (λ o. (refl, refl))
+    (at-mill both-started (load HARBOR key-name pair) _ mill-loads (λ o. (refl, refl)) begin)
+
+built-run : Run both-started (state (mill 2 waiting first-keys) (harbor 1 no-keys) (first-ksm ∷ []) [] [])
+unfolding texts Allowed
+built-run =
+    at-mill (state (mill 1 0 no-keys) (harbor 1 no-keys) [] [] []) (build-ksm 256 HARBOR first-request) _ mill-builds
+    first-small loaded-run
+
+pub answered-run : Run both-started answered
+unfolding texts counted Allowed if_then_else_
+answered-run =
+    rw count-of-first at
+    (at-harbor (state (mill 2 waiting first-keys) (harbor 1 no-keys) (first-ksm ∷ []) [] []) (receive 256 first-ksm) _
+    harbor-takes (λ r e o. List·Memᴰ·head refl) built-run)
+
+-- ---- the answer comes: confirmed, under every premise
+
+abbrev pub agreed : State
+agreed = state (mill 2 confirmed first-keys) (harbor 2 first-keys) (first-ksm ∷ []) (answering-rsm ∷ []) (1 ∷ [])
+
+pub agreed-run : Run both-started agreed
+unfolding texts Allowed
+agreed-run =
+    at-mill answered (receive 256 answering-rsm) _ mill-confirms (λ r e o. List·Memᴰ·head refl) answered-run
+
+-- one key message is no two
+pub agreed-distinct : Distinct MILL HARBOR key-name pair (agreed .from-a)
+agreed-distinct t u m n ht hu = λ rt ru e. List·Memᴰ·eq-of-singleton ht ∙ sym (List·Memᴰ·eq-of-singleton hu)
+
+-- MILL's entry for HARBOR
+abbrev mill-entry : ℕ → KeySet → Entry
+mill-entry next outgoing = sending (entry-for key-name pair HARBOR) next confirmed outgoing
+
+pub agreed-confirmed : (entry-of HARBOR (agreed .a) ≡ some (mill-entry 2 first-keys))
+    × (mill-entry 2 first-keys .phase ≡ confirmed)
+unfolding computes
+agreed-confirmed = (refl, refl)
+
+-- and what the theorem then says
+pub agreed-holds : Agreed MILL HARBOR key-name pair agreed (mill-entry 2 first-keys)
+agreed-holds =
+    agreement MILL HARBOR key-name pair afresh agreed-run agreed-distinct (mill-entry 2 first-keys)
+    (agreed-confirmed .0) (agreed-confirmed .1)
+
+-- ---- the answer is late: MILL has given up and built a message with other keys, which calls for the same MAC
+
+abbrev two-sent : List Text
+two-sent = second-ksm ∷ first-ksm ∷ []
+
+abbrev pub misled : State
+misled = state (mill 3 confirmed second-keys) (harbor 2 first-keys) two-sent (answering-rsm ∷ []) (1 ∷ [])
+
+pub misled-run : Run both-started misled
+unfolding texts Allowed
+misled-run =
+    at-mill (state (mill 3 waiting second-keys) (harbor 2 first-keys) two-sent (answering-rsm ∷ []) (1 ∷ []))
+    (receive 256 answering-rsm) _ mill-confirms-others (λ r e o. List·Memᴰ·head refl)
+    (at-mill (state (mill 2 broken no-keys) (harbor 2 first-keys) (first-ksm ∷ []) (answering-rsm ∷ []) (1 ∷ []))
+    (build-ksm 256 HARBOR second-request) _ mill-builds-again second-small
+    (at-mill answered (give-up HARBOR) _ mill-gives-up tt answered-run))
+
+pub misled-confirmed : (entry-of HARBOR (misled .a) ≡ some (mill-entry 3 second-keys))
+    × (mill-entry 3 second-keys .phase ≡ confirmed)
+unfolding computes
+misled-confirmed = (refl, refl)
+
+abbrev harbor-entry : Entry
+harbor-entry = receiving-side (entry-for key-name pair MILL) 2 first-keys
+
+harbor-holds : entry-of MILL (misled .b) ≡ some harbor-entry
+unfolding computes
+harbor-holds = refl
+
+-- HARBOR holds other keys
+pub misled-disagrees : Agreed MILL HARBOR key-name pair misled (mill-entry 3 second-keys) → ⊥
+unfolding receiving-side sending
+misled-disagrees g =
+    let p : harbor-entry ≡ g .for-a = cc (g .held, harbor-holds) in
+    let k : first-keys ≡ second-keys = ap (λ (e : Entry). e .incoming) p ∙ g .keys in
+    let n : _≡_ {A = ℕ} 0x1122334455667788 0x1E2C3E485E6C7E80 = ap (λ (s : KeySet). s .first .key) k in
+    omega (arith, n)
+
+-- so of all premises the one on MACs is not met
+pub misled-not-distinct : Distinct MILL HARBOR key-name pair (misled .from-a) → ⊥
+misled-not-distinct d =
+    misled-disagrees
+    (agreement MILL HARBOR key-name pair afresh misled-run d (mill-entry 3 second-keys) (misled-confirmed .0)
+    (misled-confirmed .1))

@@ -1,0 +1,17 @@
+pub mod CoreEnds
+pub mod CoreSent
+pub mod CoreTaken
+pub mod Core
+pub mod CardSlots
+pub mod CardTurn
+pub mod CardEvent
+pub mod CardCall
+pub mod CardRun
+pub mod CardEnds
+pub mod CardLaws
+pub mod CardKept
+pub mod CardFresh
+pub mod Theorem
+pub mod ExampleCards
+pub mod ExampleRuns
+pub mod ExampleLate

@@ -1,0 +1,205 @@
+-- Two cards, A and B, on a bad line: the demand and all that it rests on. Proved as `claims` in proofs/Theorem.antt.
+use mathlib.Core.Path.{_≡_}
+use mathlib.Core.Logic.{_⊎_, _≢_}
+use mathlib.Core.List.{List, [], _∷_, _++_, List·Memᴰ}
+use mathlib.Core.Option.{Option, none, some}
+use Prim.Native.Nat.{ℕ, _+_, _^_, _<_}
+use lib.Dec.{eqb}
+use Rattle.octets.specs.Text.{Text, same}
+use Rattle.octets.specs.Part.{bare}
+use Rattle.keying.specs.declared.Top.{Top}
+use Rattle.keying.specs.Mac.{mac-key, mac}
+use Rattle.csm.specs.Message.{Ksm, Esm, Body, rsi, ksm, rsm, esm, option, Reading, read}
+use Rattle.csm.specs.Covered.{covered-part}
+use Rattle.partner.specs.declared.Entry.{Entry}
+use Rattle.partner.specs.Entry.{name-of, keys-in, confirmed}
+use Rattle.partner.specs.Changes.{loaded}
+use Rattle.image.specs.Table.{Table}
+use Rattle.calls.specs.declared.Request.{Request}
+use Rattle.calls.specs.Words.{if_then_else_}
+use Rattle.calls.specs.Receive.{rsm-body, brought}
+use Rattle.calls.specs.Calls.{Call, receive, build-ksm, build-rsi, give-up, load, remove, ask, run, start, entry-of}
+
+infix 20 _∈_
+-- a text, or a count, is in a list
+abbrev pub _∈_ : {A : Type 0} → A → List A → Type 0
+x ∈ l = List·Memᴰ x l
+
+-- ---- the state
+
+-- both cards' whole tables; the texts that each has written, to whomever; the counts of the key messages from A that B
+-- accepted; the newest first
+pub record State : Type 0 where
+  pub a : Table
+  pub b : Table
+  pub from-a : List Text
+  pub from-b : List Text
+  pub accepted : List ℕ
+
+-- what a call writes: its reply, where there is one
+unfoldable pub texts : Text → List Text
+texts [] = []
+texts (x ∷ w) = (x ∷ w) ∷ []
+
+-- the count of a key message from one partner
+unfoldable pub count-in : Body → List ℕ
+count-in (ksm m) = m .ctp ∷ []
+count-in (rsi m) = []
+count-in (rsm m) = []
+count-in (esm m) = []
+count-in (option c w) = []
+
+unfoldable pub count-from : Text → Option Reading → List ℕ
+count-from id none = []
+count-from id (some r) = if same (r .org) id then count-in (r .body) else []
+
+-- the count of a key message from that partner that the call accepted
+unfoldable pub counted : Text → Call → ℕ → List ℕ
+counted id (receive room text) answer = if eqb answer 0 then count-from id (read text) else []
+counted id (build-ksm room to q) answer = []
+counted id (build-rsi room to s) answer = []
+counted id (give-up to) answer = []
+counted id (load to key-name key) answer = []
+counted id (remove to) answer = []
+counted id (ask to) answer = []
+
+-- counts, the newest first, that strictly rise
+pub data Rising : List ℕ → Type 0 where
+  empty : Rising []
+  more : {n : ℕ} {l : List ℕ} → ((m : ℕ) → m ∈ l → m < n) → Rising l → Rising (n ∷ l)
+
+-- ---- the steps: any call at either end
+
+-- a call of A's
+abbrev pub at-a : State → Call → State
+at-a s c = record {
+  a = run (s .a) c .table;
+  b = s .b;
+  from-a = texts (run (s .a) c .outcome .reply) ++ s .from-a;
+  from-b = s .from-b;
+  accepted = s .accepted;
+}
+
+-- a call of B's, to which A has the identity a
+abbrev pub at-b : Text → State → Call → State
+at-b a s c = record {
+  a = s .a;
+  b = run (s .b) c .table;
+  from-a = s .from-a;
+  from-b = texts (run (s .b) c .outcome .reply) ++ s .from-b;
+  accepted = counted a c (run (s .b) c .outcome .answer) ++ s .accepted;
+}
+
+-- the keys of a request are numbers of 64 bits
+pub record In-64-bits (q : Request) : Type 0 where
+  pub first : q .first .key < 2 ^ 64
+  pub second : q .second .key < 2 ^ 64
+
+-- the two are loaded for each other with one key or pair under one name
+module _ (name : Text) (top : Top) where
+  -- what is asked of a call, where `other` is the other card and `wrote` what that card has written:
+  -- a message naming the other card as originator was written by it; the other card is not removed, and is loaded with
+  -- that key under that name (loaded again it is refused). Of every other call nothing is asked
+  unfoldable pub Allowed : Text → List Text → Call → Type 0
+  Allowed other wrote (receive room text) = (r : Reading) → read text ≡ some r → r .org ≡ other → text ∈ wrote
+  Allowed other wrote (build-ksm room to q) = In-64-bits q
+  Allowed other wrote (build-rsi room to s) = Unit {0}
+  Allowed other wrote (give-up to) = Unit {0}
+  Allowed other wrote (load to key-name key) = to ≡ other → (key-name ≡ name) × (key ≡ top)
+  Allowed other wrote (remove to) = to ≢ other
+  Allowed other wrote (ask to) = Unit {0}
+
+  -- the entry that loading makes
+  abbrev pub entry-for : Text → Entry
+  entry-for other = loaded (name-of other) (name-of name) top
+
+  -- a card that has this identity, and for the other no entry yet or the one that loading makes
+  pub record Fresh (own other : Text) (t : Table) : Type 0 where
+    pub identity : bare (t .own) ≡ own
+    pub entry : (entry-of other t ≡ none) ⊎ (entry-of other t ≡ some (entry-for other))
+
+-- A is under the identity a, B under b
+module _ (a b name : Text) (top : Top) where
+  -- what calls at either end lead to: there is no step for starting a card again, nor for restoring or altering a table
+  -- outside the calls
+  pub data Reach (s₀ : State) : State → Type 0 where
+    begin : Reach s₀ s₀
+    step-a : {s : State} → Reach s₀ s → (c : Call) → Allowed name top b (s .from-b) c → Reach s₀ (at-a s c)
+    step-b : {s : State} → Reach s₀ s → (c : Call) → Allowed name top a (s .from-a) c → Reach s₀ (at-b a s c)
+
+  -- ---- the beginning
+
+  -- two cards afresh for each other, whatever else their tables hold, and nothing written since
+  pub record Afresh (s : State) : Type 0 where
+    pub card-a : Fresh name top a b (s .a)
+    pub card-b : Fresh name top b a (s .b)
+    pub a-silent : s .from-a ≡ []
+    pub b-silent : s .from-b ≡ []
+    pub none-accepted : s .accepted ≡ []
+
+  -- ---- the premise on MACs
+
+  -- a message from A to B
+  abbrev pub a-to-b : Body → Reading
+  a-to-b body = record { rcv = b; org = a; body = body }
+
+  -- the MAC of the answer that a key message of A's calls for: that of the RSM from B to A under the keys that it
+  -- carries, deciphered under the top key offset by its CTP
+  unfoldable pub called-for : Ksm → ℕ
+  called-for m =
+      mac (mac-key (keys-in (brought (entry-for name top a) m)))
+      (covered-part (record { rcv = a; org = b; body = rsm-body 0 }))
+
+  -- no two of A's key messages to B call for answers with equal MACs
+  abbrev pub Distinct : List Text → Type 0
+  Distinct wrote =
+      (t u : Text) (m n : Ksm) → t ∈ wrote → u ∈ wrote → read t ≡ some (a-to-b (ksm m)) → read u ≡ some (a-to-b (ksm n))
+      → called-for m ≡ called-for n → t ≡ u
+
+  -- ---- the conclusions
+
+  -- B holds the very keys of A's entry for it, with their names, under the count of the key message that carried them
+  pub record Agreed (s : State) (for-b : Entry) : Type 0 where
+    pub text : Text
+    pub message : Ksm
+    pub sent : text ∈ s .from-a
+    pub reading : read text ≡ some (a-to-b (ksm message))
+    pub carried : brought (entry-for name top a) message ≡ for-b .outgoing
+    pub for-a : Entry
+    pub held : entry-of a (s .b) ≡ some for-a
+    pub keys : for-a .incoming ≡ for-b .outgoing
+    pub next-send : for-b .next ≡ message .ctp + 1
+    pub expected : for-a .expected ≡ message .ctp + 1
+    pub accepted : message .ctp ∈ s .accepted
+
+  -- the history of an error that comes too late: what A has sent is sent again and reaches B, and after that an ESM
+  -- reaches A that B wrote before; whatever else happens before, between and after
+  pub record Late-error (s₀ s : State) : Type 0 where
+    pub before : State
+    pub until-then : Reach s₀ before
+    pub resent : Text
+    pub sent : resent ∈ before .from-a
+    pub room-b : ℕ
+    pub later : State
+    pub meanwhile : Reach (at-b a before (receive room-b resent)) later
+    pub error : Text
+    pub message : Esm
+    pub reading : read error ≡ some (record { rcv = a; org = b; body = esm message })
+    pub old : error ∈ before .from-b
+    pub room-a : ℕ
+    pub since : Reach (at-a later (receive room-a error)) s
+
+  pub record Claims : Type 0 where
+    -- whenever A says that its keys to B are confirmed, B holds those very keys, with their names, under the same count
+    pub agreement : {s₀ s : State} → Afresh s₀ → Reach s₀ s → Distinct (s .from-a)
+        → (for-b : Entry) → entry-of b (s .a) ≡ some for-b → for-b .phase ≡ confirmed → Agreed s for-b
+    -- the counts of the key messages that B accepts from A strictly rise
+    pub rise : {s₀ s : State} → Afresh s₀ → Reach s₀ s → Distinct (s .from-a) → Rising (s .accepted)
+    -- an old ESM that arrives after a resend never leaves A confirmed with keys that B does not hold
+    pub late-error-is-harmless : {s₀ s : State} → Afresh s₀ → Late-error s₀ s → Distinct (s .from-a)
+        → (for-b : Entry) → entry-of b (s .a) ≡ some for-b → for-b .phase ≡ confirmed → Agreed s for-b
+    -- a card that was started is fresh, and so is one that was just loaded for the other
+    pub started : (own other : Text) (t : Table) → start own ≡ some t → Fresh name top own other t
+    pub just-loaded : (own other : Text) (t : Table) → bare (t .own) ≡ own
+        → run t (load other name top) .outcome .answer ≡ 0
+        → Fresh name top own other (run t (load other name top) .table)
