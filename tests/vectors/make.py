@@ -6,10 +6,10 @@ variable key, permutation operation, substitution table. Each published answer i
 (Python's cryptography over OpenSSL; Debian: python3-cryptography) before it is written; a difference stops the script.
 
 Data keys sealed under a single key or a pair offset by a count, and MACs, are made with that library; the example of
-FIPS 113 is a published one.
+FIPS 113 is a published one. Whole messages are written here from their fields, with MACs of that library.
 
 A line of stdin is an operation and four numbers of 16 hexadecimal digits: left key, right key, count, block; after an M
-stands the text, on a line of its own. A line of stdout is a line or a text of stdin and its answer. With --write the files
+stands the text, on a line of its own, after a W a message without its MAC, which is to be read and written anew. A line of stdout is a line or a text of stdin and its answer. With --write the files
 are written, with --check they are compared.
 """
 import pathlib
@@ -82,6 +82,36 @@ def texts():
         yield 0x133457799BBCDFF1, line[:length], None
 
 
+def sealed(key, text):
+    """A message with its MAC made here, over what stands after `CSM(` and before `MAC/`."""
+    front, tag, _ = text.partition("MAC/")
+    if not tag:
+        return text
+    digits = f"{mac(key, front[4:].encode()):08X}"
+    return f"{front}MAC/{digits[:4]} {digits[4:]} )"
+
+
+def messages():
+    """Messages of each class, with a MAC of zeros: every form of a KSM that is written, and the longest."""
+    key, longest = "0123456789ABCDEF", "ABCDEFGHIJKLMNOP"
+    for rcv, org in (("HARBOR", "MILL"), ("MILL", "HARBOR"), ("A", "9"), (longest, longest[::-1])):
+        head = f"RCV/{rcv} ORG/{org} "
+        top = 0x133457799BBCDFF1
+        for service in ("", "IV", "KD", "KD.IV", "KK", "KK.IV", "KK.KD", "KK.KD.IV", "*KK", "*KK.IV", "*KK.KD", "*KK.KD.IV"):
+            yield top, f"CSM(MCL/RSI {head}SVR/{service} )"
+        yield top, f"CSM(MCL/RSM {head}MAC/0000 0000 )"
+        for letters in ("I", "K", "O", "F", "M", "FM", "ABFIKMOU"):
+            yield top, f"CSM(MCL/ESM {head}ERF/{letters} )"
+        for ctp, ctr, letters in ((5, 4, "P"), (99_999_999, 1, "FP"), (10, 99_999_999, "MP"), (258, 257, "FMP")):
+            yield top, f"CSM(MCL/ESM {head}CTP/{ctp} CTR/{ctr} ERF/{letters} )"
+        for sub in ("", ".P", "..K1", ".P.K1", "...TOP", ".P..TOP", "..K1.TOP", f".P.{longest}.{longest}"):
+            kd = f"KD/{key}{sub} "
+            for rest in ("", f"KD/FEDCBA9876543210{sub} ", f"IV/P{key} ", f"KD/{key[::-1]} IV/E{key} EDK/840229235959 ",
+                         f"KD/FEDCBA9876543210{sub} IV/E{key} EDK/991231235959 "):
+                for count in (1, 99_999_998):
+                    yield top, f"CSM(MCL/KSM {head}{kd}{rest}CTP/{count} MAC/0000 0000 )"
+
+
 def main():
     records, answers = [], []
 
@@ -106,6 +136,9 @@ def main():
             sys.exit(f"published MAC not confirmed: key {key:016X} answer {answer:08X}")
         records.append(f"M {key:016x} {0:016x} {len(text):016x} {0:016x}\n{text.decode()}")
         answers.append(f"{text.decode()} {mac(key, text):08x}")
+    for key, text in messages():
+        records.append(f"W {key:016x} {0:016x} {len(text):016x} {0:016x}\n{text}")
+        answers.append(sealed(key, text))
     store("stdin", records)
     store("stdout", answers + [f"{len(records)} lines"])
     print(f"{len(records)} lines")

@@ -32,7 +32,8 @@ use Rattle.calls.specs.Receive.{bad-count, iv-of, judged, receive-ksm, i
 use Rattle.calls.specs.Receive.{receive-esm}
 use Rattle.calls.specs.Build as building
 use Rattle.calls.specs.Build.{outgoing-of, ksm-text}
-use Rattle.calls.specs.Calls.{receive, build-ksm, After, holding, entry-of, turned, at-partner, receiving}
+use Rattle.calls.specs.Calls.{receive, build-ksm, After, entry-of, turned, at-partner, receiving}
+use Rattle.image.specs.Table.{holding}
 use Rattle.calls.specs.Calls.{perform, run}
 use Rattle.calls.specs.Claims.{Carries, Good-ksm, Accepts, Tells-counts, Good-request, Builds}
 use Rattle.calls.proofs.Tests.{if-true, if-false}

@@ -16,7 +16,8 @@ use Rattle.image.specs.Table.{Table, legal}
 use Rattle.calls.specs.Words.{if_then_else_}
 use Rattle.calls.specs.Outcome.{Turn}
 use Rattle.calls.specs.Calls.{Call, receive, build-ksm, build-rsi, give-up, load, remove, ask, After, refuse}
-use Rattle.calls.specs.Calls.{holding, entry-of, turned, at-partner, receiving, emptied, perform, run}
+use Rattle.calls.specs.Calls.{entry-of, turned, at-partner, receiving, emptied, perform, run}
+use Rattle.image.specs.Table.{holding}
 use Rattle.calls.specs.Claims.{sender, subject, Of-one-entry}
 use Rattle.calls.proofs.Turns.{Does, does-change, change-identity, receive-does, build-ksm-does}
 use Rattle.calls.proofs.Turns.{build-rsi-does, give-up-does}

@@ -22,7 +22,8 @@ use Rattle.partner.proofs.Claims.{claims}
 use Rattle.image.specs.Table.{Table, legal, identities, differs, put, place}
 use Rattle.calls.specs.Outcome.{success, nothing, Turn}
 use Rattle.calls.specs.Calls.{Call, receive, build-ksm, build-rsi, give-up, load, remove, ask, After, refuse}
-use Rattle.calls.specs.Calls.{holding, entry-of, turned, at-partner, with-room, receiving, placed, loading}
+use Rattle.calls.specs.Calls.{entry-of, turned, at-partner, with-room, receiving, placed, loading}
+use Rattle.image.specs.Table.{holding}
 use Rattle.calls.specs.Calls.{emptied, perform, run}
 use Rattle.calls.specs.Claims.{Carries, Answers, Answers-text, Writes, sender, subject}
 use Rattle.calls.proofs.Tests.{by-case}

@@ -2,7 +2,7 @@
 use mathlib.Core.Bool.{not, _&&_}
 use mathlib.Core.List.{List, [], _∷_}
 use mathlib.Core.Option.{Option, none, some}
-use Prim.Native.Nat.{ℕ, zero, suc}
+use Prim.Native.Nat.{ℕ}
 use lib.Dec.{ltb}
 use Rattle.octets.specs.Text.{Text, same, is-name}
 use Rattle.octets.specs.Part.{bare}
@@ -12,7 +12,7 @@ use Rattle.csm.specs.Message.{Reading, read}
 use Rattle.partner.specs.declared.Entry.{Entry}
 use Rattle.partner.specs.Entry.{empty, filled, name-of}
 use Rattle.partner.specs.Changes.{loaded}
-use Rattle.image.specs.Table.{Table, legal, identities, differs, find, put, place}
+use Rattle.image.specs.Table.{Table, legal, identities, differs, find, put, place, holding, started}
 use Rattle.calls.specs.declared.Request.{Request}
 use Rattle.calls.specs.Words.{if_then_else_}
 use Rattle.calls.specs.Outcome.{Outcome, refusal, success, nothing, shown, Turn, done}
@@ -37,10 +37,6 @@ pub record After : Type 0 where
 -- the answer n, the table as it was
 abbrev pub refuse : Table → ℕ → After
 refuse t n = record { outcome = refusal n; table = t }
-
--- the table with other slots
-abbrev pub holding : Table → List Entry → Table
-holding t slots = record { own = t .own; slots = slots }
 
 -- ---- one partner's entry is looked up, turned and put back
 
@@ -107,9 +103,5 @@ unfoldable pub run : Table → Call → After
 run t c = if legal t then perform t c else refuse t 13
 
 -- start: 10; a table with our identity and 64 empty slots
-abbrev pub empties : ℕ → List Entry
-empties zero = []
-empties (suc n) = empty ∷ empties n
-
 unfoldable pub start : Text → Option Table
-start own = if is-name own then some (record { own = filled own; slots = empties 64 }) else none
+start own = if is-name own then some (started (name-of own)) else none

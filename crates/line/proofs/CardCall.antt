@@ -20,7 +20,8 @@ use Rattle.partner.proofs.Naming.{filled-filled, filled-same}
 use Rattle.image.specs.Table.{Table, legal, put}
 use Rattle.calls.specs.Words.{if_then_else_}
 use Rattle.calls.specs.Outcome.{Turn}
-use Rattle.calls.specs.Calls.{Call, receive, build-ksm, build-rsi, give-up, load, remove, ask, After, refuse, holding}
+use Rattle.calls.specs.Calls.{Call, receive, build-ksm, build-rsi, give-up, load, remove, ask, After, refuse}
+use Rattle.image.specs.Table.{holding}
 use Rattle.calls.specs.Calls.{entry-of, turned, at-partner}
 use Rattle.calls.specs.Claims.{Carries, Row}
 use Rattle.calls.proofs.Slots.{row-put}

@@ -17,7 +17,8 @@ use Rattle.partner.specs.Legal.{is-filled}
 use Rattle.partner.specs.Changes.{loaded}
 use Rattle.image.specs.Table.{Table, legal, identities, differs, find, place}
 use Rattle.calls.specs.Words.{if_then_else_}
-use Rattle.calls.specs.Calls.{load, After, refuse, entry-of, placed, loading, perform, run, empties, start}
+use Rattle.calls.specs.Calls.{load, After, refuse, entry-of, placed, loading, perform, run, start}
+use Rattle.image.specs.Table.{empties}
 use Rattle.calls.proofs.Tests.{by-case}
 use Rattle.partner.proofs.Naming.{bare-filled, filled-filled}
 use Rattle.calls.proofs.Slots.{empty-is, empty-nobody}
@@ -27,6 +28,7 @@ use Rattle.line.proofs.CardRun.{loads-one}
 
 -- nobody is in empty slots
 find-empties : (id : Text) → is-filled id ≡ true → (n : ℕ) → find id (empties n) ≡ none
+unfolding empties
 find-empties id h zero = refl
 find-empties id h (suc n) = rw (empty-nobody empty id empty-is h) (find-empties id h n)
 

@@ -21,7 +21,8 @@ use Rattle.image.specs.Table.{Table, legal, identities, differs, put, place}
 use Rattle.calls.specs.Words.{if_then_else_}
 use Rattle.calls.specs.Receive as by-class
 use Rattle.calls.specs.Build as building
-use Rattle.calls.specs.Calls.{Call, receive, build-ksm, build-rsi, give-up, load, remove, ask, After, refuse, holding}
+use Rattle.calls.specs.Calls.{Call, receive, build-ksm, build-rsi, give-up, load, remove, ask, After, refuse}
+use Rattle.image.specs.Table.{holding}
 use Rattle.calls.specs.Calls.{entry-of, turned, at-partner, receiving, placed, loading, emptied, told, perform, run}
 use Rattle.calls.specs.Claims.{Row}
 use Rattle.calls.proofs.Tests.{by-case}

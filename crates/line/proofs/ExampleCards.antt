@@ -18,7 +18,7 @@ use Rattle.partner.specs.Entry.{no-keys, two-keys}
 use Rattle.partner.specs.Changes.{sending, receiving as receiving-side, accepted, issued, settled, given-up}
 use Rattle.partner.specs.Legal as partner
 use Rattle.partner.specs.Record.{place-bytes, set-bytes, top-bytes, front-bytes, count-bytes, entry-bytes}
-use Rattle.image.specs.Table.{Table, is-empty, slots-legal, legal}
+use Rattle.image.specs.Table.{Table, is-empty, empties, slots-legal, legal}
 use Rattle.calls.specs.declared.KeyRequest.{KeyRequest}
 use Rattle.calls.specs.declared.Request.{Request}
 use Rattle.calls.specs.Words.{any, some-has}
@@ -26,7 +26,6 @@ use Rattle.calls.specs.Outcome.{success, nothing, keys, confirmation}
 use Rattle.calls.specs.Receive as by-class
 use Rattle.calls.specs.Build as building
 use Rattle.calls.specs.Calls.{receive, build-ksm, give-up, load, at-partner, receiving, loading, perform, run}
-use Rattle.calls.specs.Calls.{empties}
 use Rattle.calls.proofs.Example as worked
 use Rattle.calls.proofs.Example.{MILL, HARBOR}
 use Rattle.line.specs.Line.{entry-for}
@@ -38,7 +37,7 @@ unfolding
     partner.is-filled partner.is-named partner.set-named partner.names-formed partner.is-unused partner.set-clean
     partner.form-clean partner.unused-zero partner.top-odd partner.counts-right partner.idle-right
     partner.outgoing-right partner.incoming-right partner.legal
-    entry-bytes front-bytes count-bytes set-bytes place-bytes top-bytes is-empty slots-legal legal any some-has
+    entry-bytes front-bytes count-bytes set-bytes place-bytes top-bytes is-empty empties slots-legal legal any some-has
     by-class.foreign by-class.uneven by-class.brought by-class.bad-format by-class.bad-mac
     by-class.bad-count by-class.faults by-class.judged by-class.receive-ksm by-class.is-waiting by-class.receive-rsm
     by-class.receive

@@ -2,6 +2,8 @@
 ghost use Prim.Native.Nat.{_<_};
 use keying::Top;
 
+mod whole;
+
 // The value of a hexadecimal digit; of any other byte, zero.
 fn digit(b: u8) -> u64
     ensures { λ r. ⌜ r < 16 ⌝ }
@@ -9,6 +11,11 @@ fn digit(b: u8) -> u64
     if 48 <= b {
         if b <= 57 {
             return (b - 48) as u64;
+        }
+    }
+    if 65 <= b {
+        if b <= 70 {
+            return (b - 55) as u64;
         }
     }
     if 97 <= b {
@@ -81,13 +88,33 @@ fn tell_mac(line: &[u8], text: &mut [u8]) {
     io::read_full(0, &mut text[n..e]);
 }
 
+// The message that follows a line, read and written anew from its parts, its MAC under the left key.
+fn tell_message(line: &[u8], text: &mut [u8]) {
+    if line.len() < 69 {
+        return;
+    }
+    let n = (hex(&line[36..52]) % 512) as usize;
+    if text.len() <= n {
+        return;
+    }
+    let e = n + 1;
+    io::read_full(0, &mut text[0..e]);
+    let mut reply = [0u8; 256];
+    let written = whole::anew(&mut reply, &text[0..n], hex(&line[2..18]));
+    if written <= reply.len() {
+        io::write_all(1, &reply[0..written]);
+    }
+    io::write_all(1, b"\n");
+}
+
 // A line with its answer.
 fn tell(line: &[u8], text: &mut [u8]) {
     if 0 < line.len() {
-        if line[0] == b'M' {
-            tell_mac(line, text);
-        } else {
-            tell_block(line);
+        let operation = line[0];
+        match operation {
+            b'M' => tell_mac(line, text),
+            b'W' => tell_message(line, text),
+            _ => tell_block(line),
         }
     }
 }

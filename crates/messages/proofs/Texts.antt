@@ -1,0 +1,119 @@
+-- The text of each reading, as its writers leave it part by part.
+use mathlib.Core.Path.{_≡_, refl, sym, ap, _∙_}
+use mathlib.Core.List.{[], _∷_, _++_, append-assoc, append-nil}
+use Prim.Native.Nat.{ℕ, _%_, _<_}
+use native.Mathlib.Nat.{mod-eq-of-lt}
+use Rattle.octets.specs.Text.{Text, ascii, blank}
+use Rattle.csm.specs.Format.{maybe-print}
+use Rattle.csm.specs.Fields.{decimal, nonempty, field, RCV, ORG, SVR, KD, IV, EDK, CTP, CTR, ERF}
+use Rattle.csm.specs.Message.{print}
+use Rattle.csm.specs.Covered.{covered-part}
+use Rattle.writer.specs.declared.Keys.{Keys}
+use Rattle.writer.specs.declared.Vector.{Vector}
+use Rattle.messages.specs.declared.Counts.{Counts}
+use Rattle.messages.specs.declared.Counts.the-variants.{Without, Both}
+use Rattle.writer.specs.Contents.{kd-of, first, second-of, iv-of}
+use Rattle.messages.specs.Readings.{ctp-of, ctr-of}
+use Rattle.writer.specs.Contents.{keys-text}
+use Rattle.messages.specs.Parts.{counts-text}
+use Rattle.messages.specs.Readings.{rsi-reading, esm-reading, unsealed-rsm, unsealed-ksm}
+use Rattle.messages.specs.Parts.{tail-text, unsealed-text}
+use Rattle.messages.proofs.Sealing.{Sealable}
+
+-- ---- the parts
+
+-- a count has its own digits
+count-is : (tag : Text) (n : ℕ) → n < 100_000_000
+    → tag ++ (decimal 7 (n % 100_000_000) ++ blank ∷ []) ≡ tag ++ (decimal 7 n ++ blank ∷ [])
+count-is tag n h = ap (λ (m : ℕ). tag ++ (decimal 7 m ++ blank ∷ [])) (mod-eq-of-lt h)
+
+pub no-counts : {counts : Counts} → counts ≡ Without → [] ≡ counts-text counts
+unfolding counts-text
+no-counts e = ap counts-text (sym e)
+
+pub both-counts : {counts : Counts} (p r : ℕ) → counts ≡ Both p r → p < 100_000_000 → r < 100_000_000
+    → (ascii "CTP/" ++ (decimal 7 (p % 100_000_000) ++ blank ∷ []))
+    ++ (ascii "CTR/" ++ (decimal 7 (r % 100_000_000) ++ blank ∷ []))
+    ≡ counts-text counts
+unfolding counts-text
+both-counts p r e h k =
+    ap (λ (t : Text). t ++ (ascii "CTR/" ++ (decimal 7 (r % 100_000_000) ++ blank ∷ []))) (count-is (ascii "CTP/") p h)
+    ∙ ap (λ (t : Text). (ascii "CTP/" ++ (decimal 7 p ++ blank ∷ [])) ++ t) (count-is (ascii "CTR/") r k)
+    ∙ ap counts-text (sym e)
+
+pub tail-parts : (v : Vector) (d : Text) (n : ℕ) → n < 100_000_000
+    → (maybe-print (field IV) (iv-of v) ++ maybe-print (field EDK) (nonempty d))
+    ++ (ascii "CTP/" ++ (decimal 7 (n % 100_000_000) ++ blank ∷ []))
+    ≡ tail-text v d n
+unfolding tail-text
+tail-parts v d n h =
+    let x = maybe-print (field IV) (iv-of v) in
+    let y = maybe-print (field EDK) (nonempty d) in
+    ap (λ (t : Text). (x ++ y) ++ t) (count-is (ascii "CTP/") n h) ∙ append-assoc x y (field CTP .print n)
+
+-- ---- the messages: what starts each, RCV and ORG, and what follows
+
+-- as the writers leave it, and as a message's format has it
+whole : (s r o b e : Text) → ((s ++ (r ++ o)) ++ b) ++ e ≡ (s ++ (r ++ (o ++ []))) ++ (b ++ e)
+whole s r o b e =
+    append-assoc (s ++ (r ++ o)) b e ∙ ap (λ (t : Text). (s ++ (r ++ t)) ++ (b ++ e)) (sym (append-nil o))
+
+pub rsi-text : (rcv org : Text) (s : ℕ)
+    → ((ascii "CSM(MCL/RSI " ++ (field RCV .print rcv ++ field ORG .print org)) ++ field SVR .print s) ++ ascii ")"
+    ≡ print (rsi-reading rcv org s)
+unfolding print rsi-reading
+rsi-text rcv org s =
+    whole (ascii "CSM(MCL/RSI ") (field RCV .print rcv) (field ORG .print org) (field SVR .print s) (ascii ")")
+
+pub esm-text : (rcv org : Text) (n : ℕ) (c : Counts)
+    → ((ascii "CSM(MCL/ESM " ++ (field RCV .print rcv ++ field ORG .print org))
+    ++ (counts-text c ++ field ERF .print n)) ++ ascii ")"
+    ≡ print (esm-reading rcv org n c)
+unfolding print counts-text esm-reading
+esm-text rcv org n c =
+    let p = maybe-print (field CTP) (ctp-of c) in
+    let r = maybe-print (field CTR) (ctr-of c) in
+    let head = ascii "CSM(MCL/ESM " ++ (field RCV .print rcv ++ (field ORG .print org ++ [])) in
+    whole (ascii "CSM(MCL/ESM ") (field RCV .print rcv) (field ORG .print org) ((p ++ r) ++ field ERF .print n)
+    (ascii ")")
+    ∙ ap (λ (t : Text). head ++ t) (grouped p r (field ERF .print n) (ascii ")"))
+  where
+    grouped : (p r f e : Text) → ((p ++ r) ++ f) ++ e ≡ p ++ (r ++ (f ++ e))
+    grouped p r f e = append-assoc (p ++ r) f e ∙ append-assoc p r (f ++ e)
+
+pub rsm-text : (rcv org : Text)
+    → ascii "CSM(MCL/RSM " ++ (field RCV .print rcv ++ field ORG .print org) ≡ unsealed-text (unsealed-rsm rcv org)
+unfolding unsealed-text covered-part
+rsm-text rcv org = go (ascii "CSM(MCL/RSM ") (field RCV .print rcv) (field ORG .print org)
+  where
+    go : (s r o : Text) → s ++ (r ++ o) ≡ (s ++ (r ++ (o ++ []))) ++ []
+    go s r o = sym (append-nil (s ++ (r ++ (o ++ []))) ∙ ap (λ (t : Text). s ++ (r ++ t)) (append-nil o))
+
+pub ksm-text : (rcv org : Text) (keys : Keys) (i j u w : Text) (v : Vector) (d : Text) (n : ℕ)
+    → ((ascii "CSM(MCL/KSM " ++ (field RCV .print rcv ++ field ORG .print org)) ++ keys-text keys i j u w)
+    ++ tail-text v d n
+    ≡ unsealed-text (unsealed-ksm rcv org keys i j u w v d n)
+unfolding unsealed-text covered-part keys-text tail-text
+ksm-text rcv org keys i j u w v d n =
+    whole (ascii "CSM(MCL/KSM ") (field RCV .print rcv) (field ORG .print org)
+    (field KD .print (kd-of (first keys) i j) ++ maybe-print (field KD) (second-of keys u w))
+    (maybe-print (field IV) (iv-of v) ++ (maybe-print (field EDK) (nonempty d) ++ field CTP .print n))
+    ∙ go (ascii "CSM(MCL/KSM " ++ (field RCV .print rcv ++ (field ORG .print org ++ [])))
+    (field KD .print (kd-of (first keys) i j)) (maybe-print (field KD) (second-of keys u w))
+    (maybe-print (field IV) (iv-of v)) (maybe-print (field EDK) (nonempty d)) (field CTP .print n)
+  where
+    go : (h k l x y z : Text) → h ++ ((k ++ l) ++ (x ++ (y ++ z))) ≡ h ++ (k ++ (l ++ (x ++ (y ++ (z ++ [])))))
+    go h k l x y z =
+        ap (λ (t : Text). h ++ t) (append-assoc k l (x ++ (y ++ z)))
+        ∙ ap (λ (t : Text). h ++ (k ++ (l ++ (x ++ (y ++ t))))) (sym (append-nil z))
+
+-- ---- their MACs are their own, and not part of what they cover
+
+pub rsm-sealable : (rcv org : Text) → Sealable (unsealed-rsm rcv org)
+unfolding covered-part
+rsm-sealable rcv org = record { has = λ k. refl; same = λ k. refl }
+
+pub ksm-sealable : (rcv org : Text) (keys : Keys) (i j u w : Text) (v : Vector) (d : Text) (n : ℕ)
+    → Sealable (unsealed-ksm rcv org keys i j u w v d n)
+unfolding covered-part
+ksm-sealable rcv org keys i j u w v d n = record { has = λ k. refl; same = λ k. refl }

@@ -1,0 +1,41 @@
+-- `messages::whole::put_rsm` meets its contract: the head, sealed. Assumes nothing.
+use Rattle.writer.proofs.Laying.{laid-as}
+use Rattle.messages.specs.Readings.{rsm-reading}
+use Rattle.messages.proofs.Texts.{rsm-text, rsm-sealable}
+use Rattle.messages.proofs.Sealing.{seal-ready, laid-sealed}
+use borrow.Author.Needs.{needs}
+use Rattle.messages.proofs.whole.put_rsm.Statement.{statement}
+use Rattle.messages.proofs.whole.put_rsm.Tie as tie
+
+slice-aggregate-put-head : tie.Need-slice-aggregate-put-head
+slice-aggregate-put-head c = search needs
+
+put-head-requires : tie.Need-put-head-requires
+put-head-requires c κs = search needs
+
+seal-requires : tie.Need-seal-requires
+unfolding rsm-reading
+seal-requires c κs =
+    let v = c .before .before .before in
+    let s = v .before .before .before .before .before .before in
+    let a = s .args in
+    seal-ready (rsm-sealable (a .rcv .now) (a .org .now)) (a .mac-key)
+    (laid-as (rsm-text (a .rcv .now) (a .org .now)) (v .put-head .ensures)) (s .pre)
+
+same-length : tie.Need-same-length
+same-length c = search needs
+
+returns : tie.Need-returns
+unfolding rsm-reading
+returns c =
+    let w = c .before .before in
+    let v = w .before .before .before .before in
+    let s = v .before .before .before .before .before .before in
+    let a = s .args in
+    laid-sealed (rsm-sealable (a .rcv .now) (a .org .now)) (a .mac-key)
+    (laid-as (rsm-text (a .rcv .now) (a .org .now)) (v .put-head .ensures)) (s .pre) (w .seal .ensures)
+
+pub put-rsm-spec : {M : Type 1} → statement M
+put-rsm-spec =
+    tie.close
+    (tie.spec slice-aggregate-put-head put-head-requires seal-requires same-length returns)

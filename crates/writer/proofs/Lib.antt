@@ -1,0 +1,5 @@
+pub mod Laying
+pub mod Numerals
+pub mod Letters
+pub mod Services
+pub mod Subfields

@@ -1,0 +1,35 @@
+-- `writer::digits::put_service` meets its contract: the table's part is the service's contents. Assumes nothing.
+use native.Mathlib.Omega.{arith}
+use Rattle.writer.proofs.Services.{table, service-at, no-service}
+use Rattle.writer.proofs.Laying.{laid-as, laid-nothing}
+use borrow.Author.Needs.{needs}
+use Rattle.writer.proofs.digits.put_service.Statement.{statement}
+use Rattle.writer.proofs.digits.put_service.Tie as tie
+
+returns : tie.Need-returns
+returns c =
+    let a = c .before .before .args in
+    laid-as (no-service (a .service) (omega arith)) (laid-nothing (a .rest .now))
+
+mul-at : tie.Need-mul-at
+mul-at c = search needs
+
+slice-aggregate-put-bare : tie.Need-slice-aggregate-put-bare
+slice-aggregate-put-bare c = search needs
+
+put-bare-requires : tie.Need-put-bare-requires
+put-bare-requires c κs = search needs
+
+same-length : tie.Need-same-length
+same-length c = search needs
+
+returns-2 : tie.Need-returns-2
+unfolding table
+returns-2 c =
+    let w = c .before .before in
+    laid-as (service-at (w .before .before .before .before .before .args .service) (omega arith)) (w .put-bare .ensures)
+
+pub put-service-spec : {M : Type 1} → statement M
+put-service-spec =
+    tie.close
+    (tie.spec returns mul-at slice-aggregate-put-bare put-bare-requires same-length returns-2)

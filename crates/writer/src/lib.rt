@@ -1,0 +1,125 @@
+// Field writers: each is lent the reply buffer's unwritten rest, lays its field over the front of it as far as there is
+// room, and returns how many bytes it wrote.
+ghost use mathlib.Core.List.{[], _∷_, _++_};
+ghost use Prim.Native.Nat.{_%_};
+ghost use Rattle.octets.specs.Text.{blank};
+ghost use Rattle.csm.specs.Format as formats;
+ghost use Rattle.csm.specs.Fields as fields;
+ghost use Rattle.writer.specs.Laid.{Laid};
+ghost use Rattle.writer.specs.Contents as contents;
+
+mod digits;
+mod kd;
+
+// A data key as enciphered for a KD, and whether it is marked P.
+pub struct Key {
+    pub sealed: u64,
+    pub p: bool,
+}
+
+// The data keys of a KSM.
+pub enum Keys {
+    One(Key),
+    Two(Key, Key),
+}
+
+// The IV of a KSM: none, its value, or its enciphered value.
+pub enum Vector {
+    Absent,
+    Plain(u64),
+    Enciphered(u64),
+}
+
+// A text.
+pub fn put_text(rest: &mut [u8], text: &[u8]) -> usize
+    ensures { λ r. ⌜ Laid (now (text .entry)) (now (rest .entry)) (now (rest .exit)) r ⌝ }
+{
+    octets::copy(rest, text)
+}
+
+// A field whose contents stand for themselves: tag, contents, blank.
+pub fn put_field(rest: &mut [u8], tag: &[u8], text: &[u8]) -> usize
+    ensures { λ r. ⌜ Laid (now (tag .entry) ++ (now (text .entry) ++ blank ∷ [])) (now (rest .entry)) (now (rest .exit)) r ⌝ }
+{
+    let a = put_text(rest, tag);
+    let b = a + put_text(&mut rest[a..], text);
+    b + put_text(&mut rest[b..], b" ")
+}
+
+// A count, CTP or CTR: tag, its eight low digits in decimal, blank.
+pub fn put_count(rest: &mut [u8], tag: &[u8], n: u64) -> usize
+    ensures { λ r. ⌜ Laid (now (tag .entry) ++ (fields.decimal 7 (n % 100_000_000) ++ blank ∷ [])) (now (rest .entry)) (now (rest .exit)) r ⌝ }
+{
+    let a = put_text(rest, tag);
+    let b = a + digits::put_decimal(&mut rest[a..], n % 100_000_000);
+    b + put_text(&mut rest[b..], b" ")
+}
+
+// ERF: the letters whose bits are set, A the lowest.
+pub fn put_erf(rest: &mut [u8], letters: u64) -> usize
+    ensures { λ r. ⌜ Laid (fields.field fields.ERF .print letters) (now (rest .entry)) (now (rest .exit)) r ⌝ }
+{
+    let a = put_text(rest, b"ERF/");
+    let b = a + digits::put_letters(&mut rest[a..], letters);
+    b + put_text(&mut rest[b..], b" ")
+}
+
+// MAC: four hex digits, blank, four hex digits.
+pub fn put_mac(rest: &mut [u8], mac: u32) -> usize
+    ensures { λ r. ⌜ Laid (fields.field fields.MAC .print mac) (now (rest .entry)) (now (rest .exit)) r ⌝ }
+{
+    let m = mac as u64;
+    let a = put_text(rest, b"MAC/");
+    let b = a + digits::put_half(&mut rest[a..], m / 65536);
+    b + digits::put_half(&mut rest[b..], m % 65536)
+}
+
+// SVR: the service's contents, by its place among the twelve; none has a further place.
+pub fn put_svr(rest: &mut [u8], service: u64) -> usize
+    ensures { λ r. ⌜ Laid (fields.field fields.SVR .print service) (now (rest .entry)) (now (rest .exit)) r ⌝ }
+{
+    let a = put_text(rest, b"SVR/");
+    let b = a + digits::put_service(&mut rest[a..], service);
+    b + put_text(&mut rest[b..], b" ")
+}
+
+// IV, if there is one: P and its value, or E and its enciphered value.
+pub fn put_iv(rest: &mut [u8], vector: Vector) -> usize
+    ensures { λ r. ⌜ Laid (formats.maybe-print (fields.field fields.IV) (contents.iv-of vector)) (now (rest .entry)) (now (rest .exit)) r ⌝ }
+{
+    match vector {
+        Vector::Absent => 0,
+        Vector::Plain(v) => digits::put_vector(rest, b"IV/P", v),
+        Vector::Enciphered(v) => digits::put_vector(rest, b"IV/E", v),
+    }
+}
+
+// EDK, if there is one: an empty one is none.
+pub fn put_edk(rest: &mut [u8], edk: &[u8]) -> usize
+    ensures { λ r. ⌜ Laid (formats.maybe-print (fields.field fields.EDK) (fields.nonempty (now (edk .entry)))) (now (rest .entry)) (now (rest .exit)) r ⌝ }
+{
+    if edk.len() == 0 {
+        return 0;
+    }
+    put_field(rest, b"EDK/", edk)
+}
+
+// One KD or two, each with its names: an empty name is none.
+pub fn put_keys(
+    rest: &mut [u8],
+    keys: Keys,
+    idk1: &[u8],
+    idk2: &[u8],
+    second_idk1: &[u8],
+    second_idk2: &[u8],
+) -> usize
+    ensures { λ r. ⌜ Laid (contents.keys-text keys (now (idk1 .entry)) (now (idk2 .entry)) (now («second_idk1» .entry)) (now («second_idk2» .entry))) (now (rest .entry)) (now (rest .exit)) r ⌝ }
+{
+    match keys {
+        Keys::One(key) => kd::put_kd(rest, key, idk1, idk2),
+        Keys::Two(key, other) => {
+            let a = kd::put_kd(rest, key, idk1, idk2);
+            a + kd::put_kd(&mut rest[a..], other, second_idk1, second_idk2)
+        }
+    }
+}
