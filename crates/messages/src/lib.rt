@@ -19,6 +19,7 @@ pub enum Counts {
     Without,
     Both { ctp: u64, ctr: u64 },
 }
+
 // An RSI that asks for a service, by its place among the twelve contents of SVR.
 pub fn write_rsi(reply: &mut [u8], rcv: &[u8], org: &[u8], service: u64) -> Written
     ensures { λ r. ⌜ r ≡ answers.answer (readings.rsi-reading (now (rcv .entry)) (now (org .entry)) service) (now (reply .entry)) ⌝ }
