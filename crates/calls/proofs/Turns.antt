@@ -123,7 +123,7 @@ brought-formed e m h = let p = ksm-parts m h in go (m .second) refl (p .first) (
         rw q (claims .two-keys-are-formed (brought-key e m (m .kd)) (brought-key e m k) (named (m .kd) a) (named k b))
 
 -- the letters of F, M and P that hold, with counts where P does
-letters-legal : (a b c : Bool) (x y : ℕ) → within 1 limit x ≡ true → within 1 limit y ≡ true
+pub letters-legal : (a b c : Bool) (x y : ℕ) → within 1 limit x ≡ true → within 1 limit y ≡ true
     → not (eqb (when a F + (when b M + when c P)) 0) ≡ true
     → legal-body (esm-body (when a F + (when b M + when c P)) (cond c (some (x, y)) none)) ≡ true
 letters-legal true true true x y h i k = counted-legal 164 x y refl refl h i
@@ -136,7 +136,7 @@ letters-legal false false true x y h i k = counted-legal 128 x y refl refl h i
 letters-legal false false false x y h i k = absurd (true≢false (sym k))
 
 -- where no letter stands, P does not
-no-P : (a b c : Bool) → eqb (when a F + (when b M + when c P)) 0 ≡ true → c ≡ false
+pub no-P : (a b c : Bool) → eqb (when a F + (when b M + when c P)) 0 ≡ true → c ≡ false
 no-P a b false h = refl
 no-P true true true h = absurd (true≢false (sym h))
 no-P true false true h = absurd (true≢false (sym h))

@@ -27,6 +27,7 @@ use Rattle.calls.specs.Receive.{bad-count, counts-for, judged, receive-ksm, is-
 use Rattle.calls.specs.Receive.{receive-esm, receive}
 use Rattle.calls.specs.Build.{used, not-odd, malformed, outgoing-of, ksm-text, build-ksm, build-rsi, give-up}
 use Rattle.calls.specs.Claims.{Carries}
+use Rattle.calls.proofs.Turns.{letters-legal, no-P, short-of-last}
 use Rattle.calls.proofs.Tests.{or-split, by-case}
 use Rattle.partner.proofs.Keeping.{rules}
 use Rattle.calls.proofs.Readings.{esm-legal, counted-legal, ksm-parts}
@@ -68,30 +69,6 @@ pub data Event (us : Text) (e : Entry) (Heard : Text → Type 0) : Turn → List
   issues : (o : Outcome) (q : Request) → any not-odd (used q) ≡ false → malformed q ≡ false → In-64-bits q
       → e .next < limit → o .reply ≡ ksm-text us e q
       → Event us e Heard (record { outcome = o; entry = issued e (outgoing-of q) }) []
-
--- ---- the letters of F, M and P that hold, with counts where P does
-
-letters-legal : (a b c : Bool) (x y : ℕ) → within 1 limit x ≡ true → within 1 limit y ≡ true
-    → not (eqb (when a F + (when b M + when c P)) 0) ≡ true
-    → legal-body (esm-body (when a F + (when b M + when c P)) (cond c (some (x, y)) none)) ≡ true
-letters-legal true true true x y h i k = counted-legal 164 x y refl refl h i
-letters-legal true true false x y h i k = esm-legal 36 refl refl
-letters-legal true false true x y h i k = counted-legal 132 x y refl refl h i
-letters-legal true false false x y h i k = esm-legal 4 refl refl
-letters-legal false true true x y h i k = counted-legal 160 x y refl refl h i
-letters-legal false true false x y h i k = esm-legal 32 refl refl
-letters-legal false false true x y h i k = counted-legal 128 x y refl refl h i
-letters-legal false false false x y h i k = absurd (true≢false (sym k))
-
-no-P : (a b c : Bool) → eqb (when a F + (when b M + when c P)) 0 ≡ true → c ≡ false
-no-P a b false h = refl
-no-P true true true h = absurd (true≢false (sym h))
-no-P true false true h = absurd (true≢false (sym h))
-no-P false true true h = absurd (true≢false (sym h))
-no-P false false true h = absurd (true≢false (sym h))
-
-short-of-last : (n : ℕ) → within 1 limit n ≡ true → eqb n limit ≡ false → n < limit
-short-of-last n h k = omega (arith, within-true 1 limit n h .1, eqb-false n limit k)
 
 -- ---- the steps are those events
 
