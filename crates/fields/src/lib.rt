@@ -11,6 +11,9 @@ ghost use Rattle.fields.specs.Steps.{piece, part-seen};
 mod keys;
 mod words;
 
+pub use words::block;
+pub use words::service;
+
 // The length of contents that stand for themselves.
 pub enum Piece {
     Length(usize),

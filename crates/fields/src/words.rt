@@ -39,18 +39,33 @@ pub(crate) fn numeral(base: u64, digits: &[u8]) -> u64
     n
 }
 
-// The number of four hex digits.
-pub(crate) fn half(w: &[u8]) -> Number
-    ensures { λ r. ⌜ r ≡ number-seen (csm.hex csm.half-digits)
-        (alone (value (csm.hex csm.half-digits) (now (w .entry)))) ⌝ }
+// The number of so many hex digits.
+fn hex(w: &[u8], digits: usize) -> Number
+    requires { ⌜ digits ≤ 16 ⌝ }
+    ensures { λ r. ⌜ r ≡ number-seen (csm.hex digits) (alone (value (csm.hex digits) (now (w .entry)))) ⌝ }
 {
-    if !octets::is_run(w, b'F', 4, 4) {
+    if !octets::is_run(w, b'F', digits, digits) {
         return Number::Nothing;
     }
     Number::Is {
         value: numeral(16, w),
         length: w.len(),
     }
+}
+
+// The number of four hex digits.
+pub(crate) fn half(w: &[u8]) -> Number
+    ensures { λ r. ⌜ r ≡ number-seen (csm.hex csm.half-digits)
+        (alone (value (csm.hex csm.half-digits) (now (w .entry)))) ⌝ }
+{
+    hex(w, 4)
+}
+
+// The number of sixteen hex digits: a block of the cipher.
+pub fn block(w: &[u8]) -> Number
+    ensures { λ r. ⌜ r ≡ number-seen (csm.hex 16) (alone (value (csm.hex 16) (now (w .entry)))) ⌝ }
+{
+    hex(w, 16)
 }
 
 // A count: 1 to 8 digits, the first of them no zero.
@@ -87,7 +102,7 @@ fn place(table: &[u8], w: &[u8]) -> usize
 }
 
 // A service, by its place among the twelve contents of SVR.
-pub(crate) fn service(w: &[u8]) -> Number
+pub fn service(w: &[u8]) -> Number
     ensures { λ r. ⌜ r ≡ number-seen csm.svr (alone (value csm.svr (now (w .entry)))) ⌝ }
 {
     let k = place(

@@ -1,17 +1,17 @@
--- `fields::words::half` meets its contract: four hex digits are a number's text. Assumes nothing.
+-- `fields::words::hex` meets its contract: so many hex digits are a number's text. Assumes nothing.
 use mathlib.Core.Path.{sym, ap, _∙_}
 use mathlib.Core.Bool.{Bool, cond}
 use mathlib.Core.Option.{none, some}
 use Prim.Native.Nat.{ℕ}
 use native.Mathlib.Omega.{arith}
 use borrow.Author.Tests.{not-true, not-false}
-use Rattle.csm.specs.Fields.{numeral, hex, half-digits}
+use Rattle.csm.specs.Fields.{numeral, hex}
 use Rattle.csm.proofs.WordTests.{hex-value}
 use Rattle.fields.proofs.PieceLaws.{number-is, number-not}
 use Rattle.fields.proofs.DigitLaws.{digits-of}
 use borrow.Author.Needs.{needs}
-use Rattle.fields.proofs.words.half.Statement.{statement}
-use Rattle.fields.proofs.words.half.Tie as tie
+use Rattle.fields.proofs.words.hex.Statement.{statement}
+use Rattle.fields.proofs.words.hex.Tie as tie
 
 is-run-requires : tie.Need-is-run-requires
 is-run-requires c κs = search needs
@@ -19,24 +19,26 @@ is-run-requires c κs = search needs
 returns : tie.Need-returns
 returns c =
     let w = c .before .before .before .args .w .now in
+    let d = c .before .before .before .args .digits in
     let no = sym (c .before .is-run .ensures) ∙ not-true _ (c .if1 .taken) in
-    let e = hex-value half-digits w ∙ ap (λ (b : Bool). cond b (some (numeral 16 0 w)) none) no in
-    sym (number-not (hex half-digits) w e)
+    let e = hex-value d w ∙ ap (λ (b : Bool). cond b (some (numeral 16 0 w)) none) no in
+    sym (number-not (hex d) w e)
 
 numeral-requires : tie.Need-numeral-requires
 numeral-requires c κs =
     let s = c .before .before .before in
     let yes = sym (c .before .is-run .ensures) ∙ not-false _ (c .if1 .left) in
-    (omega arith, digits-of 70 4 4 (omega arith) (omega arith) (s .args .w .now) yes)
+    (omega arith, digits-of 70 (s .args .digits) (s .args .digits) (omega arith) (c .before .before .before .pre) (s .args .w .now) yes)
 
 returns-2 : tie.Need-returns-2
 returns-2 c =
     let k = c .before in
     let w = k .before .before .before .args .w .now in
+    let d = k .before .before .before .args .digits in
     let yes = sym (k .before .is-run .ensures) ∙ not-false _ (k .if1 .left) in
-    let e = hex-value half-digits w ∙ ap (λ (b : Bool). cond b (some (numeral 16 0 w)) none) yes
+    let e = hex-value d w ∙ ap (λ (b : Bool). cond b (some (numeral 16 0 w)) none) yes
     ∙ ap (λ (n : ℕ). some n) (sym (c .numeral .ensures)) in
-    sym (number-is (hex half-digits) w _ e)
+    sym (number-is (hex d) w _ e)
 
-pub half-spec : {M : Type 1} → statement M
-half-spec = tie.close (tie.spec is-run-requires returns numeral-requires returns-2)
+pub hex-spec : {M : Type 1} → statement M
+hex-spec = tie.close (tie.spec is-run-requires returns numeral-requires returns-2)
