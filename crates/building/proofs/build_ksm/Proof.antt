@@ -1,0 +1,69 @@
+-- `building::build_ksm` meets its contract: a refusal by its number, or the message. Assumes nothing.
+use mathlib.Core.Path.{sym, ap, _∙_}
+use lib.ListN.{length}
+use Rattle.partner.specs.Changes.{issued}
+use Rattle.calls.specs.Build.{outgoing-of, ksm-text}
+use Rattle.building.proofs.Judging.{good, refused-by}
+use Rattle.building.proofs.Turning.{refuses, does}
+use borrow.Author.Needs.{needs}
+use Rattle.building.proofs.build_ksm.Statement.{statement}
+use Rattle.building.proofs.build_ksm.Tie as tie
+
+judge-requires : tie.Need-judge-requires
+judge-requires c κs = search needs
+
+refused-requires : tie.Need-refused-requires
+refused-requires c κs = search needs
+
+returns : tie.Need-returns
+returns c =
+    let a = c .before .before .before .before .before .args in
+    let j = c .before .before .judge in
+    let h = sym (j .ensures) in
+    let p = refused-by (a .own .now) (a .e) (length (a .reply .now)) (a .q) (j .result) h (c .before .if1 .taken) in
+    refuses (a .e) (j .result) (a .reply .now) p (c .refused .ensures)
+
+write-requires : tie.Need-write-requires
+write-requires c κs = sym (c .before .before .judge .ensures) ∙ c .before .if1 .left
+
+outgoing-requires : tie.Need-outgoing-requires
+outgoing-requires c κs = search needs
+
+issued-requires : tie.Need-issued-requires
+issued-requires c κs = search needs
+
+no-date-requires : tie.Need-no-date-requires
+no-date-requires c κs = search needs
+
+done-requires : tie.Need-done-requires
+done-requires c κs = search needs
+
+same-length : tie.Need-same-length
+same-length c = search needs
+
+returns-2 : tie.Need-returns-2
+returns-2 c =
+    let s = c .before .before .before .before .before .before .before .before in
+    let a = s .before .before .before .before .args in
+    let h = sym (s .before .judge .ensures) ∙ s .if1 .left in
+    let g = good (a .own .now) (a .e) (length (a .reply .now)) (a .q) h in
+    let w = c .before .before .before .before .before .before .write .ensures in
+    does (issued (a .e) (outgoing-of (a .q))) (ksm-text (a .own .now) (a .e) (a .q)) (a .reply .now) (g .turn)
+    (c .done .ensures)
+    (c .before .before .issued .ensures ∙ ap (issued (a .e)) (c .before .before .before .outgoing .ensures)) (w .0)
+    (c .before .no-date .ensures) (w .1)
+
+pub build-ksm-spec : {M : Type 1} → statement M
+build-ksm-spec =
+    tie.close
+    (tie.spec
+    judge-requires
+    refused-requires
+    returns
+    write-requires
+    outgoing-requires
+    issued-requires
+    no-date-requires
+    done-requires
+    same-length
+    returns-2)

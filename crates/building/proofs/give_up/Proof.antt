@@ -1,0 +1,45 @@
+-- `building::give_up` meets its contract: by the phase. Assumes nothing.
+use mathlib.Core.Path.{refl, ap}
+use mathlib.Core.Bool.{not}
+use mathlib.Core.List.{[]}
+use borrow.Author.Tests.{eq-eqb, ne-eqb}
+use Rattle.partner.specs.Changes.{given-up}
+use Rattle.calls.specs.Receive.{is-waiting}
+use Rattle.calls.specs.Build.{give-up}
+use Rattle.calls.proofs.Tests.{if-true, if-false}
+use Rattle.building.specs.Parts.{fronted}
+use Rattle.building.proofs.Turning.{refuses, does}
+use borrow.Author.Needs.{needs}
+use Rattle.building.proofs.give_up.Statement.{statement}
+use Rattle.building.proofs.give_up.Tie as tie
+
+refused-requires : tie.Need-refused-requires
+refused-requires c κs = search needs
+
+returns : tie.Need-returns
+unfolding give-up is-waiting
+returns c =
+    let e = c .before .before .before .args .e in
+    refuses e 5 [] (if-true _ _ _ (ap not (ne-eqb (e .phase) 1 (c .before .if1 .taken)))) (c .refused .ensures) .0
+
+given-up-requires : tie.Need-given-up-requires
+given-up-requires c κs = search needs
+
+no-date-requires : tie.Need-no-date-requires
+no-date-requires c κs = search needs
+
+done-requires : tie.Need-done-requires
+done-requires c κs = search needs
+
+returns-2 : tie.Need-returns-2
+unfolding give-up is-waiting fronted
+returns-2 c =
+    let e = c .before .before .before .before .before .args .e in
+    let h = eq-eqb (e .phase) 1 (c .before .before .before .if1 .left) in
+    does (given-up e) [] [] (if-false _ _ _ (ap not h)) (c .done .ensures)
+    (c .before .before .given-up .ensures) refl (c .before .no-date .ensures) refl .0
+
+pub give-up-spec : {M : Type 1} → statement M
+give-up-spec =
+    tie.close
+    (tie.spec refused-requires returns given-up-requires no-date-requires done-requires returns-2)

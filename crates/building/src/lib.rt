@@ -1,0 +1,86 @@
+// Build a KSM, build an RSI, give up, once the partner's entry is found: on one entry by value.
+ghost use mathlib.Core.Path.{_≡_};
+ghost use lib.ListN.{length};
+ghost use Rattle.outcome.specs.Report as report;
+ghost use Rattle.outcome.specs.Acts as acts;
+ghost use Rattle.calls.specs.Build as building;
+use calls::Request;
+use fields::Number;
+use outcome::Telling;
+use outcome::Turned;
+use partner::Entry;
+
+mod message;
+mod request;
+
+// The answer of building a KSM, in the order of document 01: 13, 6, 7, 8, 11, 12, or 0.
+fn judge(own: &[u8], e: Entry, q: Request, room: usize) -> u32
+    ensures { λ r. ⌜ r ≡ acts.build-ksm (now (own .entry)) e room q .outcome .answer ⌝ }
+{
+    if !outcome::is_sound(own, e) {
+        return 13;
+    }
+    if room < 256 {
+        return 6;
+    }
+    if e.phase == 1 {
+        return 7;
+    }
+    if e.next == 99_999_999 {
+        return 8;
+    }
+    if request::any_not_odd(q) {
+        return 11;
+    }
+    if request::malformed(q) {
+        return 12;
+    }
+    0
+}
+
+// Build a KSM: the message with the next send count, which rises by one; outgoing keys set; phase 1.
+pub fn build_ksm(own: &[u8], e: Entry, q: Request, reply: &mut [u8]) -> Turned
+    ensures { λ r. ⌜ r ≡ report.turned (acts.build-ksm (now (own .entry)) e (length (now (reply .entry))) q) ⌝ }
+    ensures { λ r. ⌜ now (reply .exit) ≡ report.replied (acts.build-ksm (now (own .entry)) e (length (now (reply .entry))) q .outcome) (now (reply .entry)) ⌝ }
+{
+    let answer = judge(own, e, q, reply.len());
+    if answer != 0 {
+        return outcome::refused(e, answer);
+    }
+    let n = message::write(own, e, q, reply);
+    let issued = partner::issued(e, message::outgoing(q));
+    outcome::done(issued, n, Telling::Nothing, outcome::no_date())
+}
+
+// Build an RSI for the service whose contents of SVR these are; it changes nothing.
+pub fn build_rsi(own: &[u8], e: Entry, contents: &[u8], reply: &mut [u8]) -> Turned
+    ensures { λ r. ⌜ r ≡ report.turned (acts.build-rsi (now (own .entry)) e (length (now (reply .entry))) (now (contents .entry))) ⌝ }
+    ensures { λ r. ⌜ now (reply .exit) ≡ report.replied (acts.build-rsi (now (own .entry)) e (length (now (reply .entry))) (now (contents .entry)) .outcome) (now (reply .entry)) ⌝ }
+{
+    if !outcome::is_sound(own, e) {
+        return outcome::refused(e, 13);
+    }
+    if reply.len() < 256 {
+        return outcome::refused(e, 6);
+    }
+    let Number::Is { value, length: _ } = fields::service(contents) else {
+        return outcome::refused(e, 12);
+    };
+    let n = message::write_rsi(own, e, value, reply);
+    outcome::done(e, n, Telling::Nothing, outcome::no_date())
+}
+
+// Give up: 5 where nothing is waiting, else phase 3 and keys wiped.
+pub fn give_up(e: Entry) -> Turned
+    ensures { λ r. ⌜ r ≡ report.turned (building.give-up e) ⌝ }
+{
+    if e.phase != 1 {
+        return outcome::refused(e, 5);
+    }
+    outcome::done(
+        partner::given_up(e),
+        0,
+        Telling::Nothing,
+        outcome::no_date(),
+    )
+}

@@ -1,0 +1,9 @@
+pub mod Missing
+pub mod Opening
+pub mod Vectors
+pub mod Faults
+pub mod Replying
+pub mod Reading
+pub mod Turning
+pub mod KeyMessage
+pub mod Classes

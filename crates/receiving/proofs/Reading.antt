@@ -1,0 +1,205 @@
+-- What the code has of a text that was read gives the text's reading back.
+use mathlib.Core.Path.{_≡_, refl, sym, ap, subst, _∙_}
+use mathlib.Core.Bool.{true, cond, _&&_}
+use mathlib.Core.List.{[], _∷_}
+use mathlib.Core.Option.{Option, none, some}
+use Prim.Native.Nat.{ℕ, _^_, _<_}
+use native.Mathlib.Omega.{arith}
+use lib.ListN.{length}
+use lib.Seq.{take-all}
+use Rattle.octets.specs.Text.{Text, all, within, run-char, is-run, is-name}
+use Rattle.octets.specs.Number.{copies}
+use Rattle.octets.proofs.Writing.{over-full}
+use Rattle.csm.specs.Format.{maybe-legal}
+use Rattle.csm.specs.Fields.{Kd, kd, hex, named, nonempty, legal-name, field, KD, IV, EDK, CTP}
+use Rattle.csm.specs.Message.{Reading, Ksm, ksm, rsm, esm, legal-body, read, found}
+use Rattle.csm.specs.Covered.{mac-of}
+use Rattle.csm.proofs.TextLaws.{and-true, within-true}
+use Rattle.csm.proofs.MessageLaws.{read-back, legal-parts}
+use Rattle.csm.proofs.CoveredLaws.{covered-agrees}
+use Rattle.reader.specs.declared.Ksm as reader-ksm
+use Rattle.reader.specs.declared.Rsm as reader-rsm
+use Rattle.reader.specs.declared.Esm as reader-esm
+use Rattle.reader.specs.declared.Message.the-variants as message
+use Rattle.reader.specs.Seen.{seen, head-seen, optional, optional-key, ksm-seen, esm-seen}
+use Rattle.reader.specs.Claims.{Ksm-parts}
+use Rattle.reader.specs.Parts as parts
+use Rattle.reader.proofs.Claims.{claims}
+use Rattle.reader.proofs.SeenBack.{Read-as, ksm-of, rsm-of, esm-of, ksm-back, rsm-back, esm-back}
+use Rattle.partner.specs.Entry.{limit}
+use Rattle.calls.proofs.Readings as legally
+use Rattle.outcome.specs.Report.{date-of}
+use Rattle.receiving.specs.Messages.{option-in, kd-in, ksm-in, rsm-in, esm-in, Sealed, Ksm-read}
+use Rattle.receiving.specs.Stages.{date-over}
+use Rattle.receiving.proofs.Missing.{nonempty-named}
+
+-- what is read is legal
+pub read-legal : (t : Text) (q : Reading) → read t ≡ some q → legal-body (q .body) ≡ true
+read-legal t q e = legal-parts q (read-back t q e .0) .body
+
+-- the finder of a text with a MAC gives the part that the MAC covers
+pub read-sealed : (t : Text) (q : Reading) (m : ℕ) → read t ≡ some q → mac-of (q .body) ≡ some m → Sealed t
+read-sealed t q m e h = claims .covered t q m e h ∙ sym (covered-agrees t q m e h)
+
+-- ---- a KSM
+
+-- an empty name, IV or EDK is not legal
+name-back : (o : Option Text) → legal-name o ≡ true → nonempty (named o) ≡ o
+name-back o h = nonempty-named is-name o refl (λ w s. ap legal-name (sym s) ∙ h)
+
+iv-back : (o : Option Text) → maybe-legal (field IV) o ≡ true → nonempty (named o) ≡ o
+iv-back o h = nonempty-named (is-run 90 1 17) o refl (λ w s. ap (maybe-legal (field IV)) (sym s) ∙ h)
+
+edk-back : (o : Option Text) → maybe-legal (field EDK) o ≡ true → nonempty (named o) ≡ o
+edk-back o h = nonempty-named (is-run 0 12 12) o refl (λ w s. ap (maybe-legal (field EDK)) (sym s) ∙ h)
+
+-- a legal KSM, field by field
+record Fields (m : Ksm) : Type 0 where
+  first : kd .legal (m .kd) ≡ true
+  second : maybe-legal (field KD) (m .second) ≡ true
+  iv : maybe-legal (field IV) (m .iv) ≡ true
+  edk : maybe-legal (field EDK) (m .edk) ≡ true
+  count : within 1 limit (m .ctp) ≡ true
+
+legal-fields : (m : Ksm) → legal-body (ksm m) ≡ true → Fields m
+legal-fields m h =
+    let a = and-true (kd .legal (m .kd)) _ h in
+    let b = and-true (maybe-legal (field KD) (m .second)) _ (a .1) in
+    let c = and-true (maybe-legal (field IV) (m .iv)) _ (b .1) in
+    let d = and-true (maybe-legal (field EDK) (m .edk)) _ (c .1) in
+    record {
+      first = a .0;
+      second = b .0;
+      iv = c .0;
+      edk = d .0;
+      count = and-true (within 1 limit (m .ctp)) _ (d .1) .0;
+    }
+
+-- a KD from its parts
+kd-same : (k : Kd) (v w : Text) → kd .legal k ≡ true → v ≡ named (k .idk1) → w ≡ named (k .idk2)
+    → _≡_ {A = Kd} (record { key = k .key; p = k .p; idk1 = nonempty v; idk2 = nonempty w }) k
+kd-same k v w h p q =
+    let n = and-true (legal-name (k .idk1)) (legal-name (k .idk2))
+    (and-true (hex 16 .legal (k .key)) (legal-name (k .idk1) && legal-name (k .idk2)) h .1) in
+    let i = ap nonempty p ∙ name-back (k .idk1) (n .0) in
+    let j = ap nonempty q ∙ name-back (k .idk2) (n .1) in
+    λ x. record { key = k .key; p = k .p; idk1 = i x; idk2 = j x }
+
+ksm-same : (t : Text) (q : Reading) (k : Ksm) → legal-body (ksm k) ≡ true
+    → Ksm-parts t (ksm-seen (head-seen q) k) k → ksm-in (ksm-seen (head-seen q) k) t ≡ k
+unfolding ksm-in
+ksm-same t q k h p =
+    let m = ksm-seen (head-seen q) k in
+    let f = legal-fields k h in
+    let one = kd-same (k .kd) (parts.first-idk1 m t) (parts.first-idk2 m t) (f .first) (p .first-idk1) (p .first-idk2) in
+    let two = other (k .second) (parts.second-idk1 m t) (parts.second-idk2 m t) (f .second) (p .second-idk1)
+    (p .second-idk2) in
+    let vector = ap nonempty (p .iv) ∙ iv-back (k .iv) (f .iv) in
+    let date = ap nonempty (p .edk) ∙ edk-back (k .edk) (f .edk) in
+    λ x. record { kd = one x; second = two x; iv = vector x; edk = date x; ctp = k .ctp; mac = k .mac }
+  where
+    other : (o : Option Kd) (v w : Text) → maybe-legal (field KD) o ≡ true
+        → v ≡ elim o [ none ↦ [] | some l ↦ named (l .idk1) ] → w ≡ elim o [ none ↦ [] | some l ↦ named (l .idk2) ]
+        → cond (found o) (some (kd-in (optional-key o .kd) v w)) none ≡ o
+    other none v w h p q = refl
+    other (some l) v w h p q = ap some (kd-same l v w h p q)
+
+pub record Reads-ksm (t : Text) (m : reader-ksm.Ksm) : Type 0 where
+  pub reading : Reading
+  pub is : read t ≡ some reading
+  pub body : reading .body ≡ ksm (ksm-in m t)
+  pub good : Ksm-read m t
+
+pub reads-ksm : (t : Text) (m : reader-ksm.Ksm) → seen (read t) ≡ message.Ksm m → Reads-ksm t m
+reads-ksm t m e = go (ksm-back t m e)
+  where
+    go : Read-as ksm ksm-of t m → Reads-ksm t m
+    go b =
+        let q = b .reading in
+        let k = b .value in
+        let l : legal-body (ksm k) ≡ true = ap legal-body (sym (b .body)) ∙ read-legal t q (b .is) in
+        let s = ksm-same t q k l (claims .ksm t q k (b .is) (b .body)) in
+        let i : ksm-in m t ≡ k = ap (λ (n : reader-ksm.Ksm). ksm-in n t) (sym (b .seen)) ∙ s in
+        record {
+          reading = q;
+          is = b .is;
+          body = b .body ∙ ap ksm (sym i);
+          good = record {
+            lawful = ap (λ (n : Ksm). legal-body (ksm n)) i ∙ l;
+            sealed = read-sealed t q (k .mac) (b .is) (ap mac-of (b .body));
+          };
+        }
+
+-- its count, and its date
+module _ (m : reader-ksm.Ksm) (t : Text) (good : Ksm-read m t) where
+  pub count-within : within 1 limit (m .ctp) ≡ true
+  unfolding ksm-in
+  count-within = legal-fields (ksm-in m t) (good .lawful) .count
+
+  pub date-same : date-over (parts.edk m t) ≡ date-of (ksm-in m t .edk)
+  unfolding ksm-in
+  date-same = go (parts.edk m t) (legal-fields (ksm-in m t) (good .lawful) .edk)
+    where
+      go : (w : Text) → maybe-legal (field EDK) (nonempty w) ≡ true → date-over w ≡ date-of (nonempty w)
+      go [] h = refl
+      go (x ∷ w) h =
+          let l = within-true 12 12 (length (x ∷ w)) (and-true (all (run-char 0) (x ∷ w)) _ h .1) in
+          let k = over-full (x ∷ w) (copies 12 0) (omega arith) ∙ take-all 12 (x ∷ w) (l .1) in
+          λ i. record { digits = k i }
+
+-- ---- an RSM
+
+pub record Reads-rsm (t : Text) (m : reader-rsm.Rsm) : Type 0 where
+  pub reading : Reading
+  pub is : read t ≡ some reading
+  pub body : reading .body ≡ rsm (rsm-in m)
+  pub sealed : Sealed t
+
+pub reads-rsm : (t : Text) (m : reader-rsm.Rsm) → seen (read t) ≡ message.Rsm m → Reads-rsm t m
+reads-rsm t m e = go (rsm-back t m e)
+  where
+    go : Read-as rsm rsm-of t m → Reads-rsm t m
+    go b = record {
+      reading = b .reading;
+      is = b .is;
+      body = b .body ∙ ap (λ (n : reader-rsm.Rsm). rsm (rsm-in n)) (b .seen);
+      sealed = read-sealed t (b .reading) (b .value .mac) (b .is) (ap mac-of (b .body));
+    }
+
+-- ---- an ESM
+
+pub record Reads-esm (t : Text) (m : reader-esm.Esm) : Type 0 where
+  pub reading : Reading
+  pub is : read t ≡ some reading
+  pub body : reading .body ≡ esm (esm-in m)
+  pub fits : m .ctp .value < 2 ^ 32
+
+option-same : (o : Option ℕ) → option-in (optional o) ≡ o
+option-same none = refl
+option-same (some n) = refl
+
+count-fits : (o : Option ℕ) → maybe-legal (field CTP) o ≡ true → optional o .value < 2 ^ 32
+count-fits none h = omega arith
+count-fits (some n) h = let w = within-true 1 limit n h in omega arith
+
+pub reads-esm : (t : Text) (m : reader-esm.Esm) → seen (read t) ≡ message.Esm m → Reads-esm t m
+reads-esm t m e = go (esm-back t m e)
+  where
+    go : Read-as esm esm-of t m → Reads-esm t m
+    go b =
+        let k = b .value in
+        let l : legal-body (esm k) ≡ true = ap legal-body (sym (b .body)) ∙ read-legal t (b .reading) (b .is) in
+        let same : esm-in (esm-seen (head-seen (b .reading)) k) ≡ k = λ i. record {
+          ctp = option-same (k .ctp) i;
+          ctr = option-same (k .ctr) i;
+          erf = k .erf;
+          edc = option-same (k .edc) i;
+        } in
+        let back : k ≡ esm-in m = sym same ∙ ap esm-in (b .seen) in
+        record {
+          reading = b .reading;
+          is = b .is;
+          body = b .body ∙ ap esm back;
+          fits = subst (λ (n : reader-esm.Esm). n .ctp .value < 2 ^ 32) (b .seen)
+              (count-fits (k .ctp) (legally.esm-count k l));
+        }

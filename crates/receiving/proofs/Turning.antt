@@ -1,0 +1,162 @@
+-- What the steps make of each outcome of a stage.
+use mathlib.Core.Path.{_≡_, refl, sym, ap, _∙_}
+use mathlib.Core.Bool.{Bool, true, false, cond, not}
+use mathlib.Core.List.{[]}
+use mathlib.Core.Option.{none, some}
+use Prim.Native.Nat.{ℕ}
+use native.Mathlib.Omega.{arith}
+use lib.Dec.{eqb}
+use borrow.Author.Tests.{eq-eqb, ne-eqb}
+use Rattle.octets.specs.Text.{Text, within}
+use Rattle.csm.specs.Message.{Ksm, Rsm, Esm, legal-body}
+use Rattle.messages.specs.declared.Counts.the-variants.{Without, Both}
+use Rattle.partner.specs.declared.KeySet.{KeySet}
+use Rattle.partner.specs.declared.Entry.{Entry}
+use Rattle.partner.specs.Entry.{limit}
+use Rattle.partner.specs.Changes.{accepted, settled}
+use Rattle.partner.specs.Legal.{legal}
+use Rattle.partner.proofs.Keeping.{rules}
+use Rattle.calls.specs.Words.{if_then_else_, any}
+use Rattle.calls.specs.Outcome.{I, K, M, Turn, refused, done, keys, confirmation, failure}
+use Rattle.calls.specs.Receive as steps
+use Rattle.calls.specs.Receive.{kds, uneven, deciphered, brought, error, esm-body, rsm-text, iv-of}
+use Rattle.calls.specs.Receive.{faults, bad-format, bad-mac, bad-count, counts-for, is-waiting, after-esm}
+use Rattle.calls.specs.Receive.{receive-ksm, receive-rsm, receive-esm}
+use Rattle.calls.proofs.Turns.{letters-legal}
+use Rattle.calls.proofs.Tests.{by-case}
+use Rattle.outcome.specs.declared.Handed.{Handed}
+use Rattle.outcome.specs.Report.{handed}
+use Rattle.receiving.specs.declared.keys.Opened.the-variants as opening
+use Rattle.receiving.specs.declared.judging.Judged.the-variants as judgement
+use Rattle.receiving.specs.Stages.{any-foreign, second-key, opened, judged, counts-between, counts-in}
+
+never : {A : Type 0} → _≡_ {A = ℕ} 0 1 → A
+never z = absurd (omega arith)
+
+-- ---- a KSM
+
+module _ (own : Text) (e : Entry) (text : Text) (m : Ksm) where
+  -- I or K
+  pub record Unopened (n : ℕ) : Type 0 where
+    pub lawful : legal-body (esm-body n none) ≡ true
+    pub turn : error own e n none ≡ receive-ksm own e text m
+
+  pub unopened : (n : ℕ) → opened e m ≡ opening.Error n → Unopened n
+  unfolding opened receive-ksm if_then_else_
+  unopened n h = go (any-foreign e m) (any (uneven e m) (kds m)) refl refl h
+    where
+      go : (a b : Bool) → any-foreign e m ≡ a → any (uneven e m) (kds m) ≡ b
+          → (if a then opening.Error I else if b then opening.Error K else
+          opening.Keys (deciphered e m (m .kd)) (second-key e m))
+          ≡ opening.Error n
+          → Unopened n
+      go true b p q h = let k : I ≡ n = cc in record {
+        lawful = ap (λ (l : ℕ). legal-body (esm-body l none)) (sym k);
+        turn = rw (← k, p);
+      }
+      go false true p q h = let k : K ≡ n = cc in record {
+        lawful = ap (λ (l : ℕ). legal-body (esm-body l none)) (sym k);
+        turn = rw (← k, p, q);
+      }
+      go false false p q h = never cc
+
+  -- the keys are handed on
+  pub record Opens (a b : ℕ) : Type 0 where
+    pub first : a ≡ deciphered e m (m .kd)
+    pub second : b ≡ second-key e m
+    pub turn : steps.judged own e text m (brought e m) ≡ receive-ksm own e text m
+
+  pub opens : (a b : ℕ) → opened e m ≡ opening.Keys a b → Opens a b
+  unfolding opened receive-ksm if_then_else_
+  opens a b h = go (any-foreign e m) (any (uneven e m) (kds m)) refl refl h
+    where
+      go : (x y : Bool) → any-foreign e m ≡ x → any (uneven e m) (kds m) ≡ y
+          → (if x then opening.Error I else if y then opening.Error K else
+          opening.Keys (deciphered e m (m .kd)) (second-key e m))
+          ≡ opening.Keys a b
+          → Opens a b
+      go true y p q h = never cc
+      go false true p q h = never cc
+      go false false p q h = record { first = cc; second = cc; turn = rw (p, q) }
+
+  module _ (set : KeySet) where
+    -- F, M or P
+    pub record Misjudged (n : ℕ) : Type 0 where
+      pub lawful : legal-body (esm-body n (counts-for e m)) ≡ true
+      pub turn : error own e n (counts-for e m) ≡ steps.judged own e text m set
+
+    pub misjudged : (n : ℕ) → legal e ≡ true → within 1 limit (m .ctp) ≡ true
+        → judged e set text m ≡ judgement.Error n → Misjudged n
+    unfolding judged steps.judged faults if_then_else_
+    misjudged n l c h = go (not (eqb (faults e set text m) 0)) refl h
+      where
+        go : (b : Bool) → not (eqb (faults e set text m) 0) ≡ b
+            → (if b then judgement.Error (faults e set text m) else
+            judgement.Good (handed (iv-of set m) (m .edk)))
+            ≡ judgement.Error n
+            → Misjudged n
+        go true q h = let k : faults e set text m ≡ n = cc in record {
+          lawful = ap (λ (x : ℕ). legal-body (esm-body x (counts-for e m))) (sym k)
+              ∙ letters-legal (bad-format set m) (bad-mac set text (m .mac)) (bad-count (e .expected) (m .ctp))
+              (e .expected) (m .ctp) (rules e l .expected-right) c q;
+          turn = ap (λ (x : ℕ). error own e x (counts-for e m)) (sym k) ∙ rw q;
+        }
+        go false q h = never cc
+
+    -- none of them
+    pub record Accepts (h : Handed) : Type 0 where
+      pub told : h ≡ handed (iv-of set m) (m .edk)
+      pub turn : done (accepted e (m .ctp) set) (rsm-text own e set) (keys (iv-of set m) (m .edk))
+          ≡ steps.judged own e text m set
+
+    pub accepts : (h : Handed) → judged e set text m ≡ judgement.Good h → Accepts h
+    unfolding judged steps.judged if_then_else_
+    accepts h k = go (not (eqb (faults e set text m) 0)) refl k
+      where
+        go : (b : Bool) → not (eqb (faults e set text m) 0) ≡ b
+            → (if b then judgement.Error (faults e set text m) else
+            judgement.Good (handed (iv-of set m) (m .edk)))
+            ≡ judgement.Good h
+            → Accepts h
+        go true q k = never cc
+        go false q k = record { told = cc; turn = rw q }
+
+-- the counts of an ESM for P
+pub counts-same : (e : Entry) (m : Ksm) → counts-in (counts-between (e .expected) (m .ctp)) ≡ counts-for e m
+counts-same e m = go (bad-count (e .expected) (m .ctp))
+  where
+    go : (b : Bool)
+        → counts-in (cond b (Both (e .expected) (m .ctp)) Without) ≡ cond b (some (e .expected, m .ctp)) none
+    go true = refl
+    go false = refl
+
+-- ---- an RSM
+
+module _ (own : Text) (e : Entry) (text : Text) (m : Rsm) where
+  pub rsm-idle : (e .phase ≡ 1 → ⊥) → refused e 5 ≡ receive-rsm own e text m
+  unfolding receive-rsm is-waiting if_then_else_
+  rsm-idle h = rw (ne-eqb (e .phase) 1 h)
+
+  pub rsm-bad : e .phase ≡ 1 → bad-mac (e .outgoing) text (m .mac) ≡ true → error own e M none ≡ receive-rsm own e text m
+  unfolding receive-rsm is-waiting if_then_else_
+  rsm-bad h b = rw (eq-eqb (e .phase) 1 h, b)
+
+  pub rsm-good : e .phase ≡ 1 → bad-mac (e .outgoing) text (m .mac) ≡ false
+      → done (settled e) [] confirmation ≡ receive-rsm own e text m
+  unfolding receive-rsm is-waiting if_then_else_
+  rsm-good h b = rw (eq-eqb (e .phase) 1 h, b)
+
+-- ---- an ESM
+
+pub esm-idle : (e : Entry) (m : Esm) → (e .phase ≡ 1 → ⊥) → refused e 5 ≡ receive-esm e m
+unfolding receive-esm is-waiting if_then_else_
+esm-idle e m h = rw (ne-eqb (e .phase) 1 h)
+
+pub esm-breaks : (e : Entry) (m : Esm) → e .phase ≡ 1 → done (after-esm e m) [] (failure (m .erf)) ≡ receive-esm e m
+unfolding receive-esm is-waiting if_then_else_
+esm-breaks e m h = rw (eq-eqb (e .phase) 1 h)
+
+-- no ESM is ever answered
+pub esm-unanswered : (e : Entry) (m : Esm) → receive-esm e m .outcome .reply ≡ []
+unfolding receive-esm
+esm-unanswered e m = by-case (λ (t : Turn). t .outcome .reply ≡ []) _ _ _ (λ h. refl) (λ h. refl)

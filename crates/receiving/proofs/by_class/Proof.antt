@@ -1,0 +1,143 @@
+-- `receiving::by_class` meets its contract: each class takes its own step. Assumes nothing.
+use mathlib.Core.Path.{refl, sym, ap, _∙_}
+use Rattle.outcome.specs.Report.{turned, report, done-turned}
+use Rattle.outcome.specs.declared.Telling.the-variants.{Service}
+use Rattle.receiving.specs.Messages.{esm-in}
+use Rattle.receiving.proofs.Classes.{no-message, is-rsi, is-option, is-ksm, is-rsm, is-esm, unreplied, replied-as}
+use Rattle.receiving.proofs.Turning.{esm-unanswered}
+use Rattle.receiving.proofs.Reading.{reads-ksm, reads-rsm, reads-esm}
+use borrow.Author.Needs.{needs}
+use Rattle.receiving.proofs.by_class.Statement.{statement}
+use Rattle.receiving.proofs.by_class.Tie as tie
+
+read-requires : tie.Need-read-requires
+read-requires c κs = search needs
+
+enum-known-message : tie.Need-enum-known-message
+enum-known-message c = search needs
+
+no-date-requires : tie.Need-no-date-requires
+no-date-requires c κs = search needs
+
+done-requires : tie.Need-done-requires
+done-requires c κs = search needs
+
+enum-known-message-2 : tie.Need-enum-known-message-2
+enum-known-message-2 c = search needs
+
+receive-ksm-requires : tie.Need-receive-ksm-requires
+receive-ksm-requires c κs =
+    let s = c .before .before .before .before .before .before .before .before in
+    (s .pre, reads-ksm (s .args .text .now) (c .before .before .message2 .given .0 .0) (sym (c .before .before .before .before .read .ensures) ∙ c .before .before .message2 .given .1) .good)
+
+enum-known-message-3 : tie.Need-enum-known-message-3
+enum-known-message-3 c = search needs
+
+receive-rsm-requires : tie.Need-receive-rsm-requires
+receive-rsm-requires c κs =
+    let s = c .before .before .before .before .before .before .before .before in
+    (s .pre, reads-rsm (s .args .text .now) (c .before .before .message3 .given .0 .0) (sym (c .before .before .before .before .read .ensures) ∙ c .before .before .message3 .given .1) .sealed)
+
+enum-known-message-4 : tie.Need-enum-known-message-4
+enum-known-message-4 c = search needs
+
+receive-esm-requires : tie.Need-receive-esm-requires
+receive-esm-requires c κs =
+    let s = c .before .before .before .before .before .before .before in
+    reads-esm (s .args .text .now) (c .before .message4 .given .0 .0) (sym (c .before .before .before .read .ensures) ∙ c .before .message4 .given .1) .fits
+
+enum-told : tie.Need-enum-told
+enum-told c = search needs
+
+error-requires : tie.Need-error-requires
+error-requires c κs = search needs
+
+enum-told-2 : tie.Need-enum-told-2
+enum-told-2 c = search needs
+
+refused-requires : tie.Need-refused-requires
+refused-requires c κs = search needs
+
+returns : tie.Need-returns
+unfolding turned report
+returns c =
+    let a = c .before .before .before .before .before .before .before .before .before .args in
+    let m = c .before .before .before .message .given in
+    let t = is-rsi (a .own .now) (a .e) (a .text .now) (m .0 .0) (sym (c .before .before .before .before .before .read .ensures) ∙ m .1) in
+    let d = c .done .ensures ∙ (λ i. done-turned (a .e) 0 (Service (m .0 .0 .service)) (c .before .no-date .ensures i)) in
+    (d ∙ ap turned t, unreplied _ _ (a .reply .now) refl t)
+
+same-length : tie.Need-same-length
+same-length c = search needs
+
+returns-2 : tie.Need-returns-2
+returns-2 c =
+    let a = c .before .before .before .before .before .before .before .before .before .before .before .args in
+    let m = c .before .before .before .before .before .message2 .given in
+    let t = is-ksm (a .own .now) (a .e) (a .text .now) (m .0 .0) (sym (c .before .before .before .before .before .before .before .read .ensures) ∙ m .1) in
+    let r = c .before .before .receive-ksm .ensures in
+    (r .0 ∙ ap turned t, r .1 ∙ replied-as _ _ (a .reply .now) t)
+
+same-length-2 : tie.Need-same-length-2
+same-length-2 c = search needs
+
+returns-3 : tie.Need-returns-3
+returns-3 c =
+    let a = c .before .before .before .before .before .before .before .before .before .before .before .args in
+    let m = c .before .before .before .before .before .message3 .given in
+    let t = is-rsm (a .own .now) (a .e) (a .text .now) (m .0 .0) (sym (c .before .before .before .before .before .before .before .read .ensures) ∙ m .1) in
+    let r = c .before .before .receive-rsm .ensures in
+    (r .0 ∙ ap turned t, r .1 ∙ replied-as _ _ (a .reply .now) t)
+
+returns-4 : tie.Need-returns-4
+returns-4 c =
+    let a = c .before .before .before .before .before .before .before .before .args in
+    let m = c .before .before .message4 .given in
+    let t = is-esm (a .own .now) (a .e) (a .text .now) (m .0 .0) (sym (c .before .before .before .before .read .ensures) ∙ m .1) in
+    (c .receive-esm .ensures ∙ ap turned t, unreplied _ _ (a .reply .now) (esm-unanswered (a .e) (esm-in (m .0 .0))) t)
+
+same-length-3 : tie.Need-same-length-3
+same-length-3 c = search needs
+
+returns-5 : tie.Need-returns-5
+returns-5 c =
+    let a = c .before .before .before .before .before .before .before .before .before .before .args in
+    let m = c .before .before .before .before .enum-told .given in
+    let t = is-option (a .own .now) (a .e) (a .text .now) (m .0 .0) (sym (c .before .before .before .before .before .before .read .ensures) ∙ m .1) in
+    let r = c .before .before .error .ensures in
+    (r .0 ∙ ap turned t, r .1 ∙ replied-as _ _ (a .reply .now) t)
+
+returns-6 : tie.Need-returns-6
+unfolding turned report
+returns-6 c =
+    let a = c .before .before .before .before .before .before .before .args in
+    let t = no-message (a .own .now) (a .e) (a .text .now) (sym (c .before .before .before .read .ensures) ∙ c .before .enum-told2 .given .1) in
+    (c .refused .ensures ∙ ap turned t, unreplied _ _ (a .reply .now) refl t)
+
+pub by-class-spec : {M : Type 1} → statement M
+by-class-spec =
+    tie.close
+    (tie.spec
+    read-requires
+    enum-known-message
+    no-date-requires
+    done-requires
+    enum-known-message-2
+    receive-ksm-requires
+    enum-known-message-3
+    receive-rsm-requires
+    enum-known-message-4
+    receive-esm-requires
+    enum-told
+    error-requires
+    enum-told-2
+    refused-requires
+    returns
+    same-length
+    returns-2
+    same-length-2
+    returns-3
+    returns-4
+    same-length-3
+    returns-5
+    returns-6)

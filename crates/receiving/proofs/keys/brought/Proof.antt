@@ -1,0 +1,47 @@
+-- `receiving::keys::brought` meets its contract: one KD or two. Assumes nothing.
+use borrow.Author.Tests.{not-true, not-false}
+use Rattle.receiving.proofs.Opening.{keys-of-one, keys-of-two}
+use borrow.Author.Needs.{needs}
+use Rattle.receiving.proofs.keys.brought.Statement.{statement}
+use Rattle.receiving.proofs.keys.brought.Tie as tie
+
+first-idk1-requires : tie.Need-first-idk1-requires
+first-idk1-requires c κs = search needs
+
+name-of-requires : tie.Need-name-of-requires
+name-of-requires c κs = search needs
+
+one-key-requires : tie.Need-one-key-requires
+one-key-requires c κs = search needs
+
+returns : tie.Need-returns
+returns c =
+    let a = c .before .before .before .before .before .before .args in
+    cc (keys-of-one (a .first) (a .second) (a .m) (a .text .now) (not-true _ (c .before .if1 .taken)))
+
+second-idk1-requires : tie.Need-second-idk1-requires
+second-idk1-requires c κs = search needs
+
+name-of-requires-2 : tie.Need-name-of-requires-2
+name-of-requires-2 c κs = search needs
+
+two-keys-requires : tie.Need-two-keys-requires
+two-keys-requires c κs = search needs
+
+returns-2 : tie.Need-returns-2
+returns-2 c =
+    let a = c .before .before .before .before .before .before .before .before .args in
+    cc (keys-of-two (a .first) (a .second) (a .m) (a .text .now) (not-false _ (c .before .before .before .if1 .left)))
+
+pub brought-spec : {M : Type 1} → statement M
+brought-spec =
+    tie.close
+    (tie.spec
+    first-idk1-requires
+    name-of-requires
+    one-key-requires
+    returns
+    second-idk1-requires
+    name-of-requires-2
+    two-keys-requires
+    returns-2)

@@ -1,0 +1,63 @@
+-- `receiving::receive` meets its contract: 13, 6, then by class. Assumes nothing.
+use mathlib.Core.Path.{refl, sym, ap, _∙_}
+use lib.ListN.{length}
+use borrow.Author.Tests.{not-true, not-false}
+use Rattle.outcome.specs.Report.{turned, report}
+use Rattle.receiving.proofs.Classes.{unreplied, replied-as, unsound, no-room, in-room}
+use borrow.Author.Needs.{needs}
+use Rattle.receiving.proofs.receive.Statement.{statement}
+use Rattle.receiving.proofs.receive.Tie as tie
+
+is-sound-requires : tie.Need-is-sound-requires
+is-sound-requires c κs = search needs
+
+refused-requires : tie.Need-refused-requires
+refused-requires c κs = search needs
+
+returns : tie.Need-returns
+unfolding turned report
+returns c =
+    let a = c .before .before .before .before .before .before .args in
+    let t = unsound (a .own .now) (a .e) (length (a .reply .now)) (a .text .now) (sym (c .before .before .is-sound .ensures) ∙ not-true _ (c .before .if1 .taken)) in
+    (c .refused .ensures ∙ ap turned t, unreplied _ _ (a .reply .now) refl t)
+
+refused-requires-2 : tie.Need-refused-requires-2
+refused-requires-2 c κs = search needs
+
+returns-2 : tie.Need-returns-2
+unfolding turned report
+returns-2 c =
+    let a = c .before .before .before .before .before .before .before .args in
+    let s = sym (c .before .before .before .is-sound .ensures) ∙ not-false _ (c .before .before .if1 .left) in
+    let t = no-room (a .own .now) (a .e) (length (a .reply .now)) (a .text .now) s (c .before .if2 .taken) in
+    (c .refused2 .ensures ∙ ap turned t, unreplied _ _ (a .reply .now) refl t)
+
+by-class-requires : tie.Need-by-class-requires
+by-class-requires c κs = record {
+  lawful = sym (c .before .before .before .is-sound .ensures) ∙ not-false _ (c .before .before .if1 .left);
+  room = c .before .if2 .left;
+}
+
+same-length : tie.Need-same-length
+same-length c = search needs
+
+returns-3 : tie.Need-returns-3
+returns-3 c =
+    let a = c .before .before .before .before .before .before .before .before .before .before .args in
+    let s = sym (c .before .before .before .before .before .before .is-sound .ensures) ∙ not-false _ (c .before .before .before .before .before .if1 .left) in
+    let t = in-room (a .own .now) (a .e) (length (a .reply .now)) (a .text .now) s (c .before .before .before .before .if2 .left) in
+    let r = c .before .before .by-class .ensures in
+    (r .0 ∙ ap turned t, r .1 ∙ replied-as _ _ (a .reply .now) t)
+
+pub receive-spec : {M : Type 1} → statement M
+receive-spec =
+    tie.close
+    (tie.spec
+    is-sound-requires
+    refused-requires
+    returns
+    refused-requires-2
+    returns-2
+    by-class-requires
+    same-length
+    returns-3)

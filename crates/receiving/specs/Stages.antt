@@ -1,0 +1,134 @@
+-- The stages of receive, in the code's values: what each hands on, or the letters with which it refuses.
+use mathlib.Core.Path.{_≡_}
+use mathlib.Core.Bool.{Bool, true, false, cond, not, _||_}
+use mathlib.Core.Option.{Option, none, some}
+use Prim.Native.Nat.{ℕ, _≤_}
+use lib.Dec.{eqb}
+use lib.ListN.{length}
+use Rattle.octets.specs.Text.{Text, same}
+use Rattle.octets.specs.Number.{copies}
+use Rattle.octets.specs.Wrote.{over}
+use Rattle.keying.specs.Date.{is-date}
+use Rattle.csm.specs.Fields.{nonempty, named}
+use Rattle.csm.specs.Message.{Ksm}
+use Rattle.messages.specs.declared.Counts.{Counts}
+use Rattle.messages.specs.declared.Counts.the-variants.{Without, Both}
+use Rattle.messages.specs.declared.Written.{Written}
+use Rattle.messages.specs.declared.Written.the-variants as written
+use Rattle.partner.specs.declared.KeySet.{KeySet}
+use Rattle.partner.specs.declared.Entry.{Entry}
+use Rattle.partner.specs.Entry.{name-of, one-key, two-keys}
+use Rattle.partner.specs.Changes.{given-up, failed}
+use Rattle.calls.specs.declared.Date.{Date}
+use Rattle.calls.specs.Words.{if_then_else_, some-has, any}
+use Rattle.calls.specs.Outcome.{I, K}
+use Rattle.calls.specs.Receive.{kds, foreign, deciphered, uneven, bad-count, faults, iv-of}
+use Rattle.outcome.specs.declared.Handed.{Handed}
+use Rattle.outcome.specs.Report.{handed}
+use Rattle.outcome.specs.Acts.{sound}
+use Rattle.receiving.specs.declared.keys.Opened.{Opened}
+use Rattle.receiving.specs.declared.keys.Opened.the-variants as opening
+use Rattle.receiving.specs.declared.judging.Judged.{Judged}
+use Rattle.receiving.specs.declared.judging.Judged.the-variants as judgement
+use Rattle.receiving.specs.declared.judging.Value.{Value}
+use Rattle.receiving.specs.declared.judging.Value.the-variants as value
+
+-- our identity and the entry are as a legal table has them, and there is room for a reply
+pub record Ready (own : Text) (e : Entry) (reply : Text) : Type 0 where
+  pub lawful : sound own e ≡ true
+  pub room : 256 ≤ length reply
+
+-- ---- I and K
+
+-- the key name in force: a KD's own IDK2 or, where that is empty, the name in the table entry
+unfoldable pub name-in-force : Text → Text → Text
+name-in-force idk2 name = elim (nonempty idk2) [ none ↦ name | some w ↦ w ]
+
+-- I, of one KD and of all
+unfoldable pub foreign-name : Text → Text → Bool
+foreign-name idk2 name = not (same (name-in-force idk2 name) name)
+
+abbrev pub any-foreign : Entry → Ksm → Bool
+any-foreign e m = any (foreign e) (kds m)
+
+-- the second key, or zero where there is none
+abbrev pub second-key : Entry → Ksm → ℕ
+second-key e m = elim (m .second) [ none ↦ 0 | some k ↦ deciphered e m k ]
+
+-- I alone, then K alone; else the keys
+unfoldable pub opened : Entry → Ksm → Opened
+opened e m =
+    if any-foreign e m then opening.Error I else
+    if any (uneven e m) (kds m) then opening.Error K else
+    opening.Keys (deciphered e m (m .kd)) (second-key e m)
+
+abbrev pub opened-letters : Opened → ℕ
+opened-letters (opening.Keys first second) = 0
+opened-letters (opening.Error letters) = letters
+
+-- these keys under the names that the message gives them
+unfoldable pub named-keys : ℕ → ℕ → Ksm → KeySet
+named-keys first second m =
+    elim (m .second) [
+      | none ↦ one-key (record { key = first; name = name-of (named (m .kd .idk1)) })
+      | some k ↦ two-keys (record { key = first; name = name-of (named (m .kd .idk1)) })
+          (record { key = second; name = name-of (named (k .idk1)) })
+    ]
+
+-- ---- F, M and P
+
+-- the value of an IV
+abbrev pub value-of : Option ℕ → Value
+value-of none = value.Nothing
+value-of (some n) = value.Is n
+
+abbrev pub is-value : Value → Bool
+is-value (value.Is n) = true
+is-value value.Nothing = false
+
+-- F: an IV that is there has no value, or an EDK that is there is no date
+unfoldable pub bad-iv : Text → Value → Bool
+bad-iv iv v = some-has (λ w. not (is-value v)) (nonempty iv)
+
+unfoldable pub bad-format : Text → Value → Text → Bool
+bad-format iv v edk = bad-iv iv v || some-has (λ w. not (is-date w)) (nonempty edk)
+
+-- the letters of F, M and P that hold; else what is handed out
+unfoldable pub judged : Entry → KeySet → Text → Ksm → Judged
+judged e set text m =
+    if not (eqb (faults e set text m) 0) then judgement.Error (faults e set text m) else
+    judgement.Good (handed (iv-of set m) (m .edk))
+
+abbrev pub judged-letters : Judged → ℕ
+judged-letters (judgement.Good h) = 0
+judged-letters (judgement.Error letters) = letters
+
+-- the IV's value, zero where it has none, and whether there is a date
+abbrev pub handed-out : Value → Bool → Handed
+handed-out (value.Is n) dated = record { vector = true; iv = n; dated = dated }
+handed-out value.Nothing dated = record { vector = false; iv = 0; dated = dated }
+
+-- the digits of a date, zeros where there is none
+abbrev pub date-over : Text → Date
+date-over edk = record { digits = over edk (copies 12 0) }
+
+-- ---- replies
+
+-- the counts of an ESM for P
+abbrev pub counts-between : ℕ → ℕ → Counts
+counts-between expected count = cond (bad-count expected count) (Both expected count) Without
+
+abbrev pub counts-in : Counts → Option (ℕ × ℕ)
+counts-in Without = none
+counts-in (Both ctp ctr) = some (ctp, ctr)
+
+-- how many bytes were written
+abbrev pub length-of : Written → ℕ
+length-of (written.Length n) = n
+length-of written.Nothing = 0
+
+-- ---- an ESM
+
+-- the entry after it, with that CTP or without one
+abbrev pub after-count : Entry → Option ℕ → Entry
+after-count e o = elim o [ none ↦ given-up e | some x ↦ failed e x ]

@@ -1,0 +1,169 @@
+// F, M and P of a KSM, all judged, and what an accepted one hands out: IV and date.
+ghost use mathlib.Core.Path.{_≡_};
+ghost use Prim.Native.Nat.{_≤_};
+ghost use Rattle.octets.specs.Number.{copies};
+ghost use Rattle.octets.specs.Wrote.{over};
+ghost use Rattle.keying.specs.Keys.{listed};
+ghost use Rattle.calls.specs.Receive as steps;
+ghost use Rattle.receiving.specs.Messages as messages;
+ghost use Rattle.receiving.specs.Stages as stages;
+use calls::Date;
+use fields::Number;
+use keying::DataKeys;
+use messages::Counts;
+use outcome::Handed;
+use partner::Entry;
+use partner::KeySet;
+use reader::Ksm;
+use reader::find;
+
+// What an accepted KSM hands out, or the letters of F, M and P that hold.
+pub(crate) enum Judged {
+    Good(Handed),
+    Error(u64),
+}
+
+// The value of an IV, or nothing.
+enum Value {
+    Is(u64),
+    Nothing,
+}
+
+// The letters that hold.
+pub(crate) fn letters_of(judged: Judged) -> u64
+    ensures { λ r. ⌜ r ≡ stages.judged-letters judged ⌝ }
+{
+    match judged {
+        Judged::Good(_) => 0,
+        Judged::Error(letters) => letters,
+    }
+}
+
+// The value of an IV: after P as it stands, after E deciphered; nothing where it is not E or P and 16 hex digits.
+fn iv_value(keys: DataKeys, w: &[u8]) -> Value
+    ensures { λ r. ⌜ r ≡ stages.value-of (steps.iv-value (listed keys) (now (w .entry))) ⌝ }
+{
+    if w.len() == 0 {
+        return Value::Nothing;
+    }
+    let Number::Is { value, length: _ } = fields::block(&w[1..]) else {
+        return Value::Nothing;
+    };
+    if w[0] == b'P' {
+        return Value::Is(value);
+    }
+    if w[0] == b'E' {
+        return Value::Is(keying::reveal(keys, value));
+    }
+    Value::Nothing
+}
+
+// F: whether an IV that is there has no value.
+fn bad_iv(iv: &[u8], value: Value) -> bool
+    ensures { λ r. ⌜ r ≡ stages.bad-iv (now (iv .entry)) value ⌝ }
+{
+    if iv.len() == 0 {
+        return false;
+    }
+    match value {
+        Value::Is(_) => false,
+        Value::Nothing => true,
+    }
+}
+
+// F: whether that holds, or an EDK that is there is no date.
+fn bad_format(iv: &[u8], value: Value, edk: &[u8]) -> bool
+    ensures { λ r. ⌜ r ≡ stages.bad-format (now (iv .entry)) value (now (edk .entry)) ⌝ }
+{
+    if bad_iv(iv, value) {
+        return true;
+    }
+    if edk.len() == 0 {
+        return false;
+    }
+    !keying::is_date(edk)
+}
+
+// M: whether the MAC differs.
+pub(crate) fn bad_mac(set: KeySet, text: &[u8], mac: u64) -> bool
+    requires { ⌜ messages.Sealed (now text) ⌝ }
+    ensures { λ r. ⌜ r ≡ steps.bad-mac set (now (text .entry)) mac ⌝ }
+{
+    let key = keying::mac_key(partner::data_keys(set));
+    keying::mac(key, find::covered(text)) as u64 != mac
+}
+
+// P: whether the count is below the expected one, or 99,999,999.
+fn bad_count(expected: u32, count: u64) -> bool
+    ensures { λ r. ⌜ r ≡ steps.bad-count expected count ⌝ }
+{
+    if count < expected as u64 {
+        return true;
+    }
+    count == 99_999_999
+}
+
+// A letter where its error holds.
+fn letter(holds: bool, bit: u64) -> u64
+    ensures { λ r. ⌜ (r ≡ steps.when holds bit) × (r ≤ bit) ⌝ }
+{
+    if holds { bit } else { 0 }
+}
+
+// The counts of an ESM for P: ours, expected, and that received.
+pub(crate) fn counts_for(expected: u32, count: u64) -> Counts
+    ensures { λ r. ⌜ r ≡ stages.counts-between expected count ⌝ }
+{
+    if bad_count(expected, count) {
+        return Counts::Both {
+            ctp: expected as u64,
+            ctr: count,
+        };
+    }
+    Counts::Without
+}
+
+// What is handed out: the IV's value, zero where it has none, and whether there is a date.
+fn handed(value: Value, dated: bool) -> Handed
+    ensures { λ r. ⌜ r ≡ stages.handed-out value dated ⌝ }
+{
+    match value {
+        Value::Is(iv) => Handed {
+            vector: true,
+            iv,
+            dated,
+        },
+        Value::Nothing => Handed {
+            vector: false,
+            iv: 0,
+            dated,
+        },
+    }
+}
+
+// F, M and P are all judged: all that hold, or what is handed out.
+pub(crate) fn judge(e: Entry, set: KeySet, text: &[u8], m: Ksm) -> Judged
+    requires { ⌜ messages.Sealed (now text) ⌝ }
+    ensures { λ r. ⌜ r ≡ stages.judged e set (now (text .entry)) (messages.ksm-in m (now (text .entry))) ⌝ }
+{
+    let iv = find::iv(text, m);
+    let edk = find::edk(text, m);
+    let value = iv_value(partner::data_keys(set), iv);
+    let format = letter(bad_format(iv, value, edk), 4);
+    let mac = letter(bad_mac(set, text, m.mac), 32);
+    let count = letter(bad_count(e.expected, m.ctp), 128);
+    let letters = format + (mac + count);
+    if letters != 0 {
+        return Judged::Error(letters);
+    }
+    Judged::Good(handed(value, edk.len() != 0))
+}
+
+// The digits of an EDK, zeros where there is none.
+pub(crate) fn date_of(edk: &[u8]) -> Date
+    ensures { λ r. ⌜ r ≡ stages.date-over (now (edk .entry)) ⌝ }
+{
+    let mut digits = [0; 12];
+    octets::copy(&mut digits, edk);
+    Date { digits: digits }
+}

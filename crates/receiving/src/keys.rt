@@ -1,0 +1,117 @@
+// The keys of a KSM: I and K judged, the keys deciphered, and the set that they form with their names.
+ghost use mathlib.Core.Path.{_≡_};
+ghost use mathlib.Core.Bool.{not, _&&_};
+ghost use Rattle.keying.specs.Parity as parity;
+ghost use Rattle.calls.specs.Receive as steps;
+ghost use Rattle.receiving.specs.Messages as messages;
+ghost use Rattle.receiving.specs.Stages as stages;
+use partner::DataKey;
+use partner::Entry;
+use partner::KeySet;
+use reader::Ksm;
+use reader::find;
+
+// The data keys deciphered, the second zero where there is none, or the letter of the error: I, then K.
+pub(crate) enum Opened {
+    Keys { first: u64, second: u64 },
+    Error(u64),
+}
+
+// The letter of the error.
+pub(crate) fn letters_of(opened: Opened) -> u64
+    ensures { λ r. ⌜ r ≡ stages.opened-letters opened ⌝ }
+{
+    match opened {
+        Opened::Keys {
+            first: _,
+            second: _,
+        } => 0,
+        Opened::Error(letters) => letters,
+    }
+}
+
+// The key name in force for a KD: its own IDK2, a part of the message, or without one the name in the table entry.
+pub fn name_in_force<'a>(idk2: &'a [u8], name: &'a [u8]) -> &'a [u8]
+    ensures { λ r. ⌜ now r ≡ stages.name-in-force (now (idk2 .entry)) (now (name .entry)) ⌝ }
+{
+    if idk2.len() == 0 {
+        return name;
+    }
+    idk2
+}
+
+// I: whether the name in force for a KD is not the entry's name.
+fn foreign<'a>(idk2: &'a [u8], name: &'a [u8]) -> bool
+    ensures { λ r. ⌜ r ≡ stages.foreign-name (now (idk2 .entry)) (now (name .entry)) ⌝ }
+{
+    !octets::same(name_in_force(idk2, name), name)
+}
+
+// I: whether that of any KD is not.
+fn any_foreign(e: Entry, text: &[u8], m: Ksm) -> bool
+    ensures { λ r. ⌜ r ≡ stages.any-foreign e (messages.ksm-in m (now (text .entry))) ⌝ }
+{
+    let filled = e.name;
+    let name = octets::bare(&filled.bytes);
+    if foreign(find::first_idk2(text, m), name) {
+        return true;
+    }
+    if !m.two {
+        return false;
+    }
+    foreign(find::second_idk2(text, m), name)
+}
+
+// K: whether a KD is marked P and its key not of odd parity.
+fn uneven(p: bool, key: u64) -> bool
+    ensures { λ r. ⌜ r ≡ p && not (parity.odd key) ⌝ }
+{
+    if !p {
+        return false;
+    }
+    !keying::odd(key)
+}
+
+// The keys deciphered under the top key offset by the message's CTP: I alone, then K alone.
+pub(crate) fn open_keys(e: Entry, text: &[u8], m: Ksm) -> Opened
+    ensures { λ r. ⌜ r ≡ stages.opened e (messages.ksm-in m (now (text .entry))) ⌝ }
+{
+    if any_foreign(e, text, m) {
+        return Opened::Error(8);
+    }
+    let key = keying::working(partner::top_of(e), m.ctp);
+    let one = m.first;
+    let kd = one.kd;
+    let first = keying::unseal(key, kd.key);
+    if uneven(kd.p, first) {
+        return Opened::Error(16);
+    }
+    if !m.two {
+        return Opened::Keys { first, second: 0 };
+    }
+    let two = m.second;
+    let other = two.kd;
+    let second = keying::unseal(key, other.key);
+    if uneven(other.p, second) {
+        return Opened::Error(16);
+    }
+    Opened::Keys { first, second }
+}
+
+// The keys and names that a KSM brings.
+pub(crate) fn brought(first: u64, second: u64, text: &[u8], m: Ksm) -> KeySet
+    ensures { λ r. ⌜ r ≡ stages.named-keys first second (messages.ksm-in m (now (text .entry))) ⌝ }
+{
+    let one = DataKey {
+        key: first,
+        name: partner::name_of(find::first_idk1(text, m)),
+    };
+    if !m.two {
+        return partner::one_key(one);
+    }
+    let two = DataKey {
+        key: second,
+        name: partner::name_of(find::second_idk1(text, m)),
+    };
+    partner::two_keys(one, two)
+}

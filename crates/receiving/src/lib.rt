@@ -1,0 +1,127 @@
+// Receive, once the partner's entry is found: by class, on one entry by value.
+ghost use mathlib.Core.Path.{_≡_};
+ghost use Prim.Native.Nat.{_^_, _<_};
+ghost use lib.ListN.{length};
+ghost use Rattle.csm.specs.Message as csm;
+ghost use Rattle.calls.specs.Receive as steps;
+ghost use Rattle.outcome.specs.Report as report;
+ghost use Rattle.outcome.specs.Acts as acts;
+ghost use Rattle.receiving.specs.Messages as messages;
+ghost use Rattle.receiving.specs.Stages as stages;
+use judging::Judged;
+use keys::Opened;
+pub use keys::name_in_force;
+use messages::Counts;
+use outcome::Telling;
+use outcome::Turned;
+use partner::Entry;
+use reader::Esm;
+use reader::Ksm;
+use reader::Message;
+use reader::Optional;
+use reader::Rsm;
+use reader::find;
+
+mod judging;
+mod keys;
+mod replies;
+
+// A KSM: I alone, K alone, then F, M and P together; otherwise the keys and names replace the incoming ones.
+fn receive_ksm(own: &[u8], e: Entry, text: &[u8], m: Ksm, reply: &mut [u8]) -> Turned
+    requires { ⌜ stages.Ready (now own) e (now reply) ⌝ }
+    requires { ⌜ messages.Ksm-read m (now text) ⌝ }
+    ensures { λ r. ⌜ r ≡ report.turned (steps.receive-ksm (now (own .entry)) e (now (text .entry)) (messages.ksm-in m (now (text .entry)))) ⌝ }
+    ensures { λ r. ⌜ now (reply .exit) ≡ report.replied (steps.receive-ksm (now (own .entry)) e (now (text .entry)) (messages.ksm-in m (now (text .entry))) .outcome) (now (reply .entry)) ⌝ }
+{
+    let opened = keys::open_keys(e, text, m);
+    let Opened::Keys { first, second } = opened else {
+        return replies::error(own, e, keys::letters_of(opened), Counts::Without, reply);
+    };
+    let set = keys::brought(first, second, text, m);
+    let judged = judging::judge(e, set, text, m);
+    let Judged::Good(handed) = judged else {
+        let counts = judging::counts_for(e.expected, m.ctp);
+        return replies::error(own, e, judging::letters_of(judged), counts, reply);
+    };
+    let length = replies::confirm(own, e, set, reply);
+    let date = judging::date_of(find::edk(text, m));
+    let accepted = partner::accepted(e, m.ctp as u32, set);
+    outcome::done(accepted, length, Telling::Keys(handed), date)
+}
+
+// An RSM: not waiting, 5; MAC differs under the outgoing keys, 4 with M, still waiting; otherwise 0, phase 2.
+fn receive_rsm(own: &[u8], e: Entry, text: &[u8], m: Rsm, reply: &mut [u8]) -> Turned
+    requires { ⌜ stages.Ready (now own) e (now reply) ⌝ }
+    requires { ⌜ messages.Sealed (now text) ⌝ }
+    ensures { λ r. ⌜ r ≡ report.turned (steps.receive-rsm (now (own .entry)) e (now (text .entry)) (messages.rsm-in m)) ⌝ }
+    ensures { λ r. ⌜ now (reply .exit) ≡ report.replied (steps.receive-rsm (now (own .entry)) e (now (text .entry)) (messages.rsm-in m) .outcome) (now (reply .entry)) ⌝ }
+{
+    if e.phase != 1 {
+        return outcome::refused(e, 5);
+    }
+    let outgoing = e.outgoing;
+    if judging::bad_mac(outgoing, text, m.mac) {
+        return replies::error(own, e, 32, Counts::Without, reply);
+    }
+    outcome::done(
+        partner::settled(e),
+        0,
+        Telling::Confirmation,
+        outcome::no_date(),
+    )
+}
+
+// The entry after an ESM with that CTP, or without one.
+fn after_esm(e: Entry, ctp: Optional) -> Entry
+    requires { ⌜ ctp .value < 2 ^ 32 ⌝ }
+    ensures { λ r. ⌜ r ≡ stages.after-count e (messages.option-in ctp) ⌝ }
+{
+    if ctp.there {
+        return partner::failed(e, ctp.value as u32);
+    }
+    partner::given_up(e)
+}
+
+// An ESM: not waiting, 5; otherwise 0: phase 3, keys wiped, next send the larger of itself and CTP.
+fn receive_esm(e: Entry, m: Esm) -> Turned
+    requires { ⌜ m .ctp .value < 2 ^ 32 ⌝ }
+    ensures { λ r. ⌜ r ≡ report.turned (steps.receive-esm e (messages.esm-in m)) ⌝ }
+{
+    if e.phase != 1 {
+        return outcome::refused(e, 5);
+    }
+    let ctp = m.ctp;
+    let after = after_esm(e, ctp);
+    outcome::done(after, 0, Telling::Failure(m.erf), outcome::no_date())
+}
+
+// By class; an RSI: 0, the service wanted is returned; an option: 4 with O; no message: 1.
+fn by_class(own: &[u8], e: Entry, text: &[u8], reply: &mut [u8]) -> Turned
+    requires { ⌜ stages.Ready (now own) e (now reply) ⌝ }
+    ensures { λ r. ⌜ r ≡ report.turned (acts.receive-read (now (own .entry)) e (now (text .entry)) (csm.read (now (text .entry)))) ⌝ }
+    ensures { λ r. ⌜ now (reply .exit) ≡ report.replied (acts.receive-read (now (own .entry)) e (now (text .entry)) (csm.read (now (text .entry))) .outcome) (now (reply .entry)) ⌝ }
+{
+    let message = reader::read(text);
+    match message {
+        Message::Rsi(m) => outcome::done(e, 0, Telling::Service(m.service), outcome::no_date()),
+        Message::Ksm(m) => receive_ksm(own, e, text, m, reply),
+        Message::Rsm(m) => receive_rsm(own, e, text, m, reply),
+        Message::Esm(m) => receive_esm(e, m),
+        Message::Option(_) => replies::error(own, e, 64, Counts::Without, reply),
+        Message::Nothing => outcome::refused(e, 1),
+    }
+}
+
+// Receive, once the partner's entry is found: 13, 6, 1, then by class.
+pub fn receive(own: &[u8], e: Entry, text: &[u8], reply: &mut [u8]) -> Turned
+    ensures { λ r. ⌜ r ≡ report.turned (acts.receive (now (own .entry)) e (length (now (reply .entry))) (now (text .entry))) ⌝ }
+    ensures { λ r. ⌜ now (reply .exit) ≡ report.replied (acts.receive (now (own .entry)) e (length (now (reply .entry))) (now (text .entry)) .outcome) (now (reply .entry)) ⌝ }
+{
+    if !outcome::is_sound(own, e) {
+        return outcome::refused(e, 13);
+    }
+    if reply.len() < 256 {
+        return outcome::refused(e, 6);
+    }
+    by_class(own, e, text, reply)
+}

@@ -1,0 +1,47 @@
+// What we answer: an ESM or an RSM to the partner.
+ghost use mathlib.Core.Path.{_≡_};
+ghost use mathlib.Core.Bool.{true};
+ghost use mathlib.Core.List.{_++_};
+ghost use lib.ListN.{length, drop};
+ghost use Rattle.csm.specs.Message as csm;
+ghost use Rattle.calls.specs.Receive as steps;
+ghost use Rattle.outcome.specs.Report as report;
+ghost use Rattle.receiving.specs.Stages as stages;
+use messages::Counts;
+use messages::Written;
+use outcome::Turned;
+use partner::Entry;
+use partner::KeySet;
+
+// How many bytes were written.
+fn length_of(written: Written) -> usize
+    ensures { λ r. ⌜ r ≡ stages.length-of written ⌝ }
+{
+    match written {
+        Written::Length(length) => length,
+        Written::Nothing => 0,
+    }
+}
+
+// 4 with these letters: an ESM, the entry as it was.
+pub(crate) fn error(own: &[u8], e: Entry, letters: u64, counts: Counts, reply: &mut [u8]) -> Turned
+    requires { ⌜ stages.Ready (now own) e (now reply) ⌝ }
+    requires { ⌜ csm.legal-body (steps.esm-body letters (stages.counts-in counts)) ≡ true ⌝ }
+    ensures { λ r. ⌜ r ≡ report.turned (steps.error (now (own .entry)) e letters (stages.counts-in counts)) ⌝ }
+    ensures { λ r. ⌜ now (reply .exit) ≡ report.replied (steps.error (now (own .entry)) e letters (stages.counts-in counts) .outcome) (now (reply .entry)) ⌝ }
+{
+    let identity = e.identity;
+    let written = messages::write_esm(reply, octets::bare(&identity.bytes), own, letters, counts);
+    outcome::complained(e, letters, length_of(written))
+}
+
+// An RSM under the keys of the KSM that it answers: its length.
+pub(crate) fn confirm(own: &[u8], e: Entry, set: KeySet, reply: &mut [u8]) -> usize
+    requires { ⌜ stages.Ready (now own) e (now reply) ⌝ }
+    ensures { λ r. ⌜ r ≡ length (steps.rsm-text (now (own .entry)) e set) ⌝ }
+    ensures { λ r. ⌜ now (reply .exit) ≡ steps.rsm-text (now (own .entry)) e set ++ drop (length (steps.rsm-text (now (own .entry)) e set)) (now (reply .entry)) ⌝ }
+{
+    let identity = e.identity;
+    let key = keying::mac_key(partner::data_keys(set));
+    length_of(messages::write_rsm(reply, octets::bare(&identity.bytes), own, key))
+}
