@@ -1,7 +1,144 @@
-// The card's C face. Today it has the entry points for tests and benchmarks.
+// The card's C face: every call on numbers and byte slices, its answer as the result, the rest in a report of 32 bytes.
+// host/khlongsit.h is its manual.
 ghost use mathlib.Core.Path.{_≡_};
+ghost use lib.ListN.{length};
 ghost use Rattle.dea.specs.Dea as dea;
 ghost use Rattle.keying.specs.Mac as mac;
+ghost use Rattle.calls.specs.Calls as calls;
+ghost use Rattle.outcome.specs.Report as outcomes;
+ghost use Rattle.face.specs.Report as reports;
+ghost use Rattle.face.specs.Request as requests;
+ghost use Rattle.card.specs.Over as over;
+ghost use Rattle.card.specs.Whole as whole;
+use outcome::Report;
+
+// What a call gives, in the report; its answer.
+fn told(report: &mut [u8; 32], r: Report) -> u32
+    ensures { λ n. ⌜ n ≡ r .answer ⌝ }
+    ensures { λ n. ⌜ now (report .exit) ≡ reports.report-bytes r ⌝ }
+{
+    face::put_report(report, r);
+    r.answer
+}
+
+// Receive: 13, 6, 1, 2, 3, then by class.
+#[no_mangle]
+pub extern "C" fn khl_receive(
+    image: &mut [u8],
+    text: &[u8],
+    reply: &mut [u8],
+    report: &mut [u8; 32],
+) -> u32
+    ensures { λ r. ⌜ r ≡ (over.outcome-over (now (image .entry)) (calls.receive (length (now (reply .entry))) (now (text .entry)))) .answer ⌝ }
+    ensures { λ r. ⌜ now (image .exit) ≡ over.image-over (now (image .entry)) (calls.receive (length (now (reply .entry))) (now (text .entry))) ⌝ }
+    ensures { λ r. ⌜ now (reply .exit) ≡ outcomes.replied (over.outcome-over (now (image .entry)) (calls.receive (length (now (reply .entry))) (now (text .entry)))) (now (reply .entry)) ⌝ }
+    ensures { λ r. ⌜ now (report .exit) ≡ reports.report-bytes (outcomes.report (over.outcome-over (now (image .entry)) (calls.receive (length (now (reply .entry))) (now (text .entry))))) ⌝ }
+{
+    told(report, card::receive(image, text, reply))
+}
+
+// Build a KSM: 13, 6, 3, 7, 8, 11, 12.
+#[no_mangle]
+pub extern "C" fn khl_build_ksm(
+    image: &mut [u8],
+    partner: &[u8],
+    request: &[u8],
+    reply: &mut [u8],
+    report: &mut [u8; 32],
+) -> u32
+    ensures { λ r. ⌜ r ≡ (over.outcome-over (now (image .entry)) (calls.build-ksm (length (now (reply .entry))) (now (partner .entry)) (requests.request-in (now (request .entry))))) .answer ⌝ }
+    ensures { λ r. ⌜ now (image .exit) ≡ over.image-over (now (image .entry)) (calls.build-ksm (length (now (reply .entry))) (now (partner .entry)) (requests.request-in (now (request .entry)))) ⌝ }
+    ensures { λ r. ⌜ now (reply .exit) ≡ outcomes.replied (over.outcome-over (now (image .entry)) (calls.build-ksm (length (now (reply .entry))) (now (partner .entry)) (requests.request-in (now (request .entry))))) (now (reply .entry)) ⌝ }
+    ensures { λ r. ⌜ now (report .exit) ≡ reports.report-bytes (outcomes.report (over.outcome-over (now (image .entry)) (calls.build-ksm (length (now (reply .entry))) (now (partner .entry)) (requests.request-in (now (request .entry)))))) ⌝ }
+{
+    told(
+        report,
+        card::build_ksm(image, partner, face::request_in(request), reply),
+    )
+}
+
+// Build an RSI: 13, 6, 3, 12.
+#[no_mangle]
+pub extern "C" fn khl_build_rsi(
+    image: &[u8],
+    partner: &[u8],
+    service: &[u8],
+    reply: &mut [u8],
+    report: &mut [u8; 32],
+) -> u32
+    ensures { λ r. ⌜ r ≡ (over.outcome-over (now (image .entry)) (calls.build-rsi (length (now (reply .entry))) (now (partner .entry)) (now (service .entry)))) .answer ⌝ }
+    ensures { λ r. ⌜ now (reply .exit) ≡ outcomes.replied (over.outcome-over (now (image .entry)) (calls.build-rsi (length (now (reply .entry))) (now (partner .entry)) (now (service .entry)))) (now (reply .entry)) ⌝ }
+    ensures { λ r. ⌜ now (report .exit) ≡ reports.report-bytes (outcomes.report (over.outcome-over (now (image .entry)) (calls.build-rsi (length (now (reply .entry))) (now (partner .entry)) (now (service .entry))))) ⌝ }
+{
+    told(report, card::build_rsi(image, partner, service, reply))
+}
+
+// Ask for an entry: 13, 6, 3.
+#[no_mangle]
+pub extern "C" fn khl_ask(
+    image: &[u8],
+    partner: &[u8],
+    reply: &mut [u8],
+    report: &mut [u8; 32],
+) -> u32
+    ensures { λ r. ⌜ r ≡ (whole.ask-over (now (image .entry)) (length (now (reply .entry))) (now (partner .entry))) .answer ⌝ }
+    ensures { λ r. ⌜ now (reply .exit) ≡ outcomes.replied (whole.ask-over (now (image .entry)) (length (now (reply .entry))) (now (partner .entry))) (now (reply .entry)) ⌝ }
+    ensures { λ r. ⌜ now (report .exit) ≡ reports.report-bytes (outcomes.report (whole.ask-over (now (image .entry)) (length (now (reply .entry))) (now (partner .entry)))) ⌝ }
+{
+    told(report, card::ask(image, partner, reply))
+}
+
+// Give up: 13, 3, 5.
+#[no_mangle]
+pub extern "C" fn khl_give_up(image: &mut [u8], partner: &[u8], report: &mut [u8; 32]) -> u32
+    ensures { λ r. ⌜ r ≡ (over.outcome-over (now (image .entry)) (calls.give-up (now (partner .entry)))) .answer ⌝ }
+    ensures { λ r. ⌜ now (image .exit) ≡ over.image-over (now (image .entry)) (calls.give-up (now (partner .entry))) ⌝ }
+    ensures { λ r. ⌜ now (report .exit) ≡ reports.report-bytes (outcomes.report (over.outcome-over (now (image .entry)) (calls.give-up (now (partner .entry))))) ⌝ }
+{
+    told(report, card::give_up(image, partner))
+}
+
+// Start: 6, 10.
+#[no_mangle]
+pub extern "C" fn khl_start(own: &[u8], out: &mut [u8], report: &mut [u8; 32]) -> u32
+    ensures { λ r. ⌜ r ≡ (whole.start-over (now (own .entry)) (length (now (out .entry)))) .answer ⌝ }
+    ensures { λ r. ⌜ now (out .exit) ≡ outcomes.replied (whole.start-over (now (own .entry)) (length (now (out .entry)))) (now (out .entry)) ⌝ }
+    ensures { λ r. ⌜ now (report .exit) ≡ reports.report-bytes (outcomes.report (whole.start-over (now (own .entry)) (length (now (out .entry))))) ⌝ }
+{
+    told(report, card::start(own, out))
+}
+
+// Load: 13, 6, 10, 12, 11, 9.
+#[no_mangle]
+pub extern "C" fn khl_load(
+    image: &[u8],
+    partner: &[u8],
+    name: &[u8],
+    key: &[u8],
+    out: &mut [u8],
+    report: &mut [u8; 32],
+) -> u32
+    ensures { λ r. ⌜ r ≡ (whole.load-over (now (image .entry)) (length (now (out .entry))) (now (partner .entry)) (now (name .entry)) (now (key .entry))) .answer ⌝ }
+    ensures { λ r. ⌜ now (out .exit) ≡ outcomes.replied (whole.load-over (now (image .entry)) (length (now (out .entry))) (now (partner .entry)) (now (name .entry)) (now (key .entry))) (now (out .entry)) ⌝ }
+    ensures { λ r. ⌜ now (report .exit) ≡ reports.report-bytes (outcomes.report (whole.load-over (now (image .entry)) (length (now (out .entry))) (now (partner .entry)) (now (name .entry)) (now (key .entry)))) ⌝ }
+{
+    told(report, card::load(image, partner, name, key, out))
+}
+
+// Remove: 13, 6, 3.
+#[no_mangle]
+pub extern "C" fn khl_remove(
+    image: &[u8],
+    partner: &[u8],
+    out: &mut [u8],
+    report: &mut [u8; 32],
+) -> u32
+    ensures { λ r. ⌜ r ≡ (whole.remove-over (now (image .entry)) (length (now (out .entry))) (now (partner .entry))) .answer ⌝ }
+    ensures { λ r. ⌜ now (out .exit) ≡ outcomes.replied (whole.remove-over (now (image .entry)) (length (now (out .entry))) (now (partner .entry))) (now (out .entry)) ⌝ }
+    ensures { λ r. ⌜ now (report .exit) ≡ reports.report-bytes (outcomes.report (whole.remove-over (now (image .entry)) (length (now (out .entry))) (now (partner .entry)))) ⌝ }
+{
+    told(report, card::remove(image, partner, out))
+}
 
 // For tests: a block enciphered under a key.
 #[no_mangle]

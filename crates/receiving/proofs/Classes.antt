@@ -23,7 +23,7 @@ use Rattle.calls.specs.Words.{if_then_else_}
 use Rattle.outcome.specs.Report.{replied}
 use Rattle.outcome.specs.Acts as acts
 use Rattle.outcome.specs.Acts.{sound, guarded, receive-read}
-use Rattle.receiving.specs.Messages.{ksm-in, rsm-in, esm-in}
+use Rattle.receiving.specs.Texts.{ksm-in, rsm-in, esm-in}
 use Rattle.receiving.proofs.Reading.{reads-ksm, reads-rsm, reads-esm}
 
 module _ (own : Text) (e : Entry) (t : Text) where
@@ -33,10 +33,12 @@ module _ (own : Text) (e : Entry) (t : Text) where
   unfolding receive-read
   by-body q b i k = sym (ap (receive-read own e t) i ∙ ap (receive own e t) k)
 
+  -- 1: no message of this paper
   pub no-message : seen (read t) ≡ message.Nothing → refused e 1 ≡ receive-read own e t (read t)
   unfolding receive-read
   no-message h = sym (ap (receive-read own e t) (nothing-back t h))
 
+  -- an RSI: 0, the service wanted
   pub is-rsi : (m : reader-rsi.Rsi) → seen (read t) ≡ message.Rsi m
       → done e [] (service (m .service)) ≡ receive-read own e t (read t)
   unfolding receive
@@ -47,6 +49,7 @@ module _ (own : Text) (e : Entry) (t : Text) where
           let s : m .service ≡ b .value .svr = ap (λ (n : reader-rsi.Rsi). n .service) (sym (b .seen)) in
           ap (λ (n : ℕ). done e [] (service n)) s ∙ by-body (b .reading) (rsi (b .value)) (b .is) (b .body)
 
+  -- an option: 4 with O
   pub is-option : (m : Rest) → seen (read t) ≡ message.Option m → error own e O none ≡ receive-read own e t (read t)
   unfolding receive
   is-option m h = go (option-back t m h)
@@ -54,6 +57,7 @@ module _ (own : Text) (e : Entry) (t : Text) where
       go : Read-as option-as option-of t m → error own e O none ≡ receive-read own e t (read t)
       go b = by-body (b .reading) (option-as (b .value)) (b .is) (b .body)
 
+  -- a KSM, an RSM, an ESM: the step of its class
   pub is-ksm : (m : reader-ksm.Ksm) → seen (read t) ≡ message.Ksm m
       → receive-ksm own e t (ksm-in m t) ≡ receive-read own e t (read t)
   unfolding receive
@@ -80,14 +84,17 @@ unreplied t u l k h = ap (λ (w : Text). w ++ drop (length w) l) (sym k) ∙ rep
 
 -- 13, then 6, then by class
 module _ (own : Text) (e : Entry) (room : ℕ) (t : Text) where
+  -- 13
   pub unsound : sound own e ≡ false → refused e 13 ≡ acts.receive own e room t
   unfolding acts.receive guarded if_then_else_
   unsound h = rw h
 
+  -- 6
   pub no-room : sound own e ≡ true → room < 256 → refused e 6 ≡ acts.receive own e room t
   unfolding acts.receive guarded if_then_else_
   no-room h r = rw (h, lt-ltb room 256 r)
 
+  -- neither
   pub in-room : sound own e ≡ true → 256 ≤ room → receive-read own e t (read t) ≡ acts.receive own e room t
   unfolding acts.receive guarded if_then_else_
   in-room h r = rw (h, le-ltb room 256 r)

@@ -25,12 +25,13 @@ use Rattle.outcome.specs.declared.Handed.{Handed}
 use Rattle.outcome.specs.Report.{handed, or-zero}
 use Rattle.receiving.specs.declared.judging.Value.{Value}
 use Rattle.receiving.specs.declared.judging.Judged.the-variants.{Good, Error}
-use Rattle.receiving.specs.Messages.{ksm-in}
-use Rattle.receiving.specs.Stages.{value-of, is-value, bad-iv, bad-format, judged, handed-out}
+use Rattle.receiving.specs.Texts.{ksm-in}
+use Rattle.receiving.specs.Stages.{value-of, is-value, bad-iv, bad-format, bad-mac, judged, handed-out}
 use Rattle.receiving.proofs.Missing.{nonempty-none, nonempty-some}
 
 -- ---- F
 
+-- no IV is not bad; one that is there is where it has no value
 pub no-iv : (iv : Text) (v : Value) → length iv ≡ 0 → false ≡ bad-iv iv v
 unfolding bad-iv some-has
 no-iv iv v h = rw (bad-iv, nonempty-none iv h)
@@ -39,6 +40,7 @@ pub some-iv : (iv : Text) (v : Value) → 1 ≤ length iv → not (is-value v) �
 unfolding bad-iv some-has
 some-iv iv v h = rw (bad-iv, nonempty-some iv h)
 
+-- after a good or missing IV the EDK decides
 pub no-edk : (iv edk : Text) (v : Value) → bad-iv iv v ≡ false → length edk ≡ 0 → false ≡ bad-format iv v edk
 unfolding bad-format some-has
 no-edk iv edk v f h = rw (bad-format, f, nonempty-none edk h)
@@ -48,6 +50,7 @@ pub some-edk : (iv edk : Text) (v : Value) → bad-iv iv v ≡ false → 1 ≤ l
 unfolding bad-format some-has
 some-edk iv edk v f h = rw (bad-format, f, nonempty-some edk h)
 
+-- a bad IV is F
 pub bad-iv-is-bad : (iv edk : Text) (v : Value) → bad-iv iv v ≡ true → true ≡ bad-format iv v edk
 unfolding bad-format
 bad-iv-is-bad iv edk v f = rw (bad-format, f)
@@ -58,6 +61,7 @@ value-found none = refl
 value-found (some n) = refl
 
 module _ (set : KeySet) (m : Ksm) (iv edk : Text) (i : m .iv ≡ nonempty iv) (d : m .edk ≡ nonempty edk) where
+  -- F of the steps
   pub format-same : bad-format iv (value-of (iv-value (keys-in set) iv)) edk ≡ steps.bad-format set m
   unfolding bad-format bad-iv steps.bad-format some-has
   format-same = rw (i, d) (go iv)
@@ -72,6 +76,7 @@ module _ (set : KeySet) (m : Ksm) (iv edk : Text) (i : m .iv ≡ nonempty iv) (d
 
   -- ---- what is handed out
 
+  -- what the steps tell of IV and date
   pub handed-same : (b : Bool) → b ≡ not (eqb (length edk) 0)
       → handed-out (value-of (iv-value (keys-in set) iv)) b ≡ handed (iv-of set m) (m .edk)
   unfolding iv-value
@@ -100,11 +105,13 @@ module _ (set : KeySet) (m : Ksm) (iv edk : Text) (i : m .iv ≡ nonempty iv) (d
 
 -- ---- all of them
 
+-- some letter holds
 pub judged-error : (e : Entry) (set : KeySet) (t : Text) (m : Ksm) (n : ℕ) → n ≡ faults e set t m → (n ≡ 0 → ⊥)
     → Error n ≡ judged e set t m
 unfolding judged if_then_else_
 judged-error e set t m n h k = rw (← h, ne-eqb n 0 k)
 
+-- no letter holds
 pub judged-good : (e : Entry) (set : KeySet) (t : Text) (m : Ksm) (n : ℕ) → n ≡ faults e set t m → n ≡ 0
     → Good (handed (iv-of set m) (m .edk)) ≡ judged e set t m
 unfolding judged if_then_else_
@@ -114,10 +121,11 @@ judged-good e set t m n h k = rw (← h, eq-eqb n 0 k)
 module _ (e : Entry) (set : KeySet) (m : reader.Ksm) (t : Text) (v : Value)
     (is : v ≡ value-of (iv-value (keys-in set) (parts.iv m t))) (x y z : ℕ)
     (format : x ≡ when (bad-format (parts.iv m t) v (parts.edk m t)) F)
-    (mac : y ≡ when (steps.bad-mac set t (m .mac)) M)
+    (mac : y ≡ when (bad-mac (keys-in set) t (m .mac)) M)
     (count : z ≡ when (steps.bad-count (e .expected) (m .ctp)) P) where
+  -- the sum of the letters is the faults of the steps
   faults-same : x + (y + z) ≡ faults e set t (ksm-in m t)
-  unfolding faults ksm-in
+  unfolding faults ksm-in bad-mac steps.bad-mac
   faults-same =
       let same = format-same set (ksm-in m t) (parts.iv m t) (parts.edk m t) refl refl in
       let f : x ≡ when (steps.bad-format set (ksm-in m t)) F =
@@ -125,9 +133,11 @@ module _ (e : Entry) (set : KeySet) (m : reader.Ksm) (t : Text) (v : Value)
       ∙ ap (λ (b : Bool). when b F) same in
       λ i. f i + (mac i + count i)
 
+  -- so the stage refuses with them
   pub judge-error : (x + (y + z) ≡ 0 → ⊥) → Error (x + (y + z)) ≡ judged e set t (ksm-in m t)
   judge-error = judged-error e set t (ksm-in m t) (x + (y + z)) faults-same
 
+  -- or hands out
   pub judge-good : (h : Handed) → h ≡ handed-out v (not (eqb (length (parts.edk m t)) 0)) → x + (y + z) ≡ 0
       → Good h ≡ judged e set t (ksm-in m t)
   unfolding ksm-in

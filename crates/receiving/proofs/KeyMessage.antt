@@ -24,7 +24,7 @@ use Rattle.receiving.specs.declared.keys.Opened.{Opened}
 use Rattle.receiving.specs.declared.keys.Opened.the-variants as opening
 use Rattle.receiving.specs.declared.judging.Judged.{Judged}
 use Rattle.receiving.specs.declared.judging.Judged.the-variants as judgement
-use Rattle.receiving.specs.Messages.{ksm-in, Ksm-read}
+use Rattle.receiving.specs.Texts.{ksm-in, Ksm-read}
 use Rattle.receiving.specs.Stages.{opened, opened-letters, named-keys, judged, judged-letters, date-over}
 use Rattle.receiving.specs.Stages.{counts-between, counts-in}
 use Rattle.receiving.proofs.Opening.{brought-same}
@@ -69,7 +69,8 @@ module _ (own : Text) (e : Entry) (m : reader.Ksm) (t : Text) where
 
     -- otherwise 0: what is told, and the RSM
     pub stage-accepted : (h : Handed) → j ≡ judgement.Good h
-        → done-turned (accepted e (m .ctp) set) (length (rsm-text own e set)) (telling.Keys h) (date-over (parts.edk m t))
+        → done-turned (accepted e (m .ctp) set) (length (rsm-text own e set)) (telling.Keys h)
+        (date-over (parts.edk m t))
         ≡ turned (receive-ksm own e t (ksm-in m t))
     unfolding turned report ksm-in
     stage-accepted h r =

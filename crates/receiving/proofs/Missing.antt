@@ -10,6 +10,7 @@ use Rattle.octets.specs.Text.{Text}
 use Rattle.csm.specs.Fields.{nonempty, named}
 use Rattle.receiving.specs.Stages.{name-in-force}
 
+-- an empty part is none, another is itself
 pub nonempty-none : (w : Text) → length w ≡ 0 → nonempty w ≡ none
 nonempty-none [] h = refl
 nonempty-none (x ∷ w) h = absurd (omega arith)
@@ -18,6 +19,7 @@ pub nonempty-some : (w : Text) → 1 ≤ length w → nonempty w ≡ some w
 nonempty-some [] h = absurd (omega arith)
 nonempty-some (x ∷ w) h = refl
 
+-- what was taken for missing and filled again
 pub named-nonempty : (w : Text) → named (nonempty w) ≡ w
 named-nonempty [] = refl
 named-nonempty (x ∷ w) = refl
@@ -45,6 +47,7 @@ and-not a b h = rw h
 pub and-so : (a b c : Bool) → a ≡ true → c ≡ b → c ≡ a && b
 and-so a b c h e = rw (h, e)
 
+-- either of two, by the first
 pub or-not : (a b c : Bool) → a ≡ false → c ≡ b → c ≡ a || b
 or-not a b c h e = rw (h, e)
 

@@ -19,7 +19,7 @@ use Rattle.calls.specs.Words.{if_then_else_, any}
 use Rattle.calls.specs.Outcome.{I, K}
 use Rattle.calls.specs.Receive.{kds, foreign, deciphered, uneven, brought}
 use Rattle.receiving.specs.declared.keys.Opened.the-variants.{Keys, Error}
-use Rattle.receiving.specs.Messages.{kd-in, ksm-in}
+use Rattle.receiving.specs.Texts.{kd-in, ksm-in}
 use Rattle.receiving.specs.Stages.{name-in-force, foreign-name, any-foreign, second-key, opened, named-keys}
 use Rattle.receiving.proofs.Missing.{named-nonempty}
 
@@ -34,10 +34,12 @@ pub any-first : (f : Kd → Bool) (m : Ksm) → f (m .kd) ≡ true → any f (kd
 unfolding any
 any-first f m h = rw h
 
+-- the one KD decides
 pub any-one : (f : Kd → Bool) (m : Ksm) → f (m .kd) ≡ false → m .second ≡ none → any f (kds m) ≡ false
 unfolding any
 any-one f m h s = rw (h, s)
 
+-- the second KD decides
 pub any-two : (f : Kd → Bool) (m : Ksm) (k : Kd) → f (m .kd) ≡ false → m .second ≡ some k → any f (kds m) ≡ f k
 unfolding any
 any-two f m k h s = rw (h, s) (last (f k))
@@ -47,14 +49,17 @@ any-two f m k h s = rw (h, s) (last (f k))
     last false = refl
 
 module _ (e : Entry) (m : Ksm) where
+  -- I
   pub opened-foreign : any-foreign e m ≡ true → Error I ≡ opened e m
   unfolding opened if_then_else_
   opened-foreign h = rw h
 
+  -- K
   pub opened-uneven : any-foreign e m ≡ false → any (uneven e m) (kds m) ≡ true → Error K ≡ opened e m
   unfolding opened if_then_else_
   opened-uneven h u = rw (h, u)
 
+  -- the keys
   pub opened-keys : any-foreign e m ≡ false → any (uneven e m) (kds m) ≡ false
       → Keys (deciphered e m (m .kd)) (second-key e m) ≡ opened e m
   unfolding opened if_then_else_
@@ -76,6 +81,7 @@ module _ (e : Entry) (m : reader.Ksm) (t : Text) where
   abbrev entry-name : Text
   entry-name = bare (e .name .bytes)
 
+  -- one KD or two
   second-none : m .two ≡ false → ksm-in m t .second ≡ none
   unfolding ksm-in
   second-none h = rw h
@@ -85,18 +91,22 @@ module _ (e : Entry) (m : reader.Ksm) (t : Text) where
   unfolding ksm-in
   second-some h = rw h
 
+  -- I of the first KD
   first-foreign : foreign e (ksm-in m t .kd) ≡ foreign-name (parts.first-idk2 m t) entry-name
   unfolding ksm-in
   first-foreign = foreign-same e (ksm-in m t .kd) (parts.first-idk2 m t) refl
 
+  -- I of any KD: the first one
   pub foreign-first : foreign-name (parts.first-idk2 m t) (bare (e .name .bytes)) ≡ true
       → true ≡ any-foreign e (ksm-in m t)
   foreign-first h = sym (any-first (foreign e) (ksm-in m t) (first-foreign ∙ h))
 
+  -- one KD, and it is ours
   pub foreign-one : foreign-name (parts.first-idk2 m t) (bare (e .name .bytes)) ≡ false → m .two ≡ false
       → false ≡ any-foreign e (ksm-in m t)
   foreign-one h s = sym (any-one (foreign e) (ksm-in m t) (first-foreign ∙ h) (second-none s))
 
+  -- the first is ours, and the second decides
   pub foreign-two : (b : Bool) → foreign-name (parts.first-idk2 m t) (bare (e .name .bytes)) ≡ false → m .two ≡ true
       → b ≡ foreign-name (parts.second-idk2 m t) (bare (e .name .bytes)) → b ≡ any-foreign e (ksm-in m t)
   foreign-two b h s k =
@@ -111,6 +121,7 @@ module _ (e : Entry) (m : reader.Ksm) (t : Text) where
   abbrev pub uneven-key : reader-key.Key → Bool
   uneven-key k = k .kd .p && not (odd (plain k))
 
+  -- K of the first KD and of the second
   first-uneven : uneven e (ksm-in m t) (ksm-in m t .kd) ≡ uneven-key (m .first)
   unfolding uneven ksm-in
   first-uneven = refl
@@ -157,6 +168,7 @@ module _ (e : Entry) (m : reader.Ksm) (t : Text) where
 abbrev named-key : ℕ → Text → DataKey
 named-key key name = record { key = key; name = name-of name }
 
+-- one key, or two, under their names
 named-one : (a b : ℕ) (k : Ksm) → k .second ≡ none → one-key (named-key a (named (k .kd .idk1))) ≡ named-keys a b k
 unfolding named-keys
 named-one a b k s = rw (named-keys, s)
@@ -166,6 +178,7 @@ named-two : (a b : ℕ) (k : Ksm) (l : Kd) → k .second ≡ some l
 unfolding named-keys
 named-two a b k l s = rw (named-keys, s)
 
+-- a set of one key from the parts of the text
 pub keys-of-one : (a b : ℕ) (m : reader.Ksm) (t : Text) → m .two ≡ false
     → one-key (record { key = a; name = name-of (parts.first-idk1 m t) }) ≡ named-keys a b (ksm-in m t)
 unfolding ksm-in
@@ -173,6 +186,7 @@ keys-of-one a b m t s =
     ap (λ (w : Text). one-key (named-key a w)) (sym (named-nonempty (parts.first-idk1 m t)))
     ∙ named-one a b (ksm-in m t) (rw s)
 
+-- a set of two
 pub keys-of-two : (a b : ℕ) (m : reader.Ksm) (t : Text) → m .two ≡ true
     → two-keys (record { key = a; name = name-of (parts.first-idk1 m t) })
     (record { key = b; name = name-of (parts.second-idk1 m t) })

@@ -29,7 +29,7 @@ use Rattle.reader.proofs.SeenBack.{Read-as, ksm-of, rsm-of, esm-of, ksm-back, r
 use Rattle.partner.specs.Entry.{limit}
 use Rattle.calls.proofs.Readings as legally
 use Rattle.outcome.specs.Report.{date-of}
-use Rattle.receiving.specs.Messages.{option-in, kd-in, ksm-in, rsm-in, esm-in, Sealed, Ksm-read}
+use Rattle.receiving.specs.Texts.{option-in, kd-in, ksm-in, rsm-in, esm-in, Sealed, Ksm-read}
 use Rattle.receiving.specs.Stages.{date-over}
 use Rattle.receiving.proofs.Missing.{nonempty-named}
 
@@ -61,6 +61,7 @@ record Fields (m : Ksm) : Type 0 where
   edk : maybe-legal (field EDK) (m .edk) ≡ true
   count : within 1 limit (m .ctp) ≡ true
 
+-- each field of a legal KSM is legal
 legal-fields : (m : Ksm) → legal-body (ksm m) ≡ true → Fields m
 legal-fields m h =
     let a = and-true (kd .legal (m .kd)) _ h in
@@ -85,13 +86,15 @@ kd-same k v w h p q =
     let j = ap nonempty q ∙ name-back (k .idk2) (n .1) in
     λ x. record { key = k .key; p = k .p; idk1 = i x; idk2 = j x }
 
+-- a KSM from its parts
 ksm-same : (t : Text) (q : Reading) (k : Ksm) → legal-body (ksm k) ≡ true
     → Ksm-parts t (ksm-seen (head-seen q) k) k → ksm-in (ksm-seen (head-seen q) k) t ≡ k
 unfolding ksm-in
 ksm-same t q k h p =
     let m = ksm-seen (head-seen q) k in
     let f = legal-fields k h in
-    let one = kd-same (k .kd) (parts.first-idk1 m t) (parts.first-idk2 m t) (f .first) (p .first-idk1) (p .first-idk2) in
+    let one = kd-same (k .kd) (parts.first-idk1 m t) (parts.first-idk2 m t) (f .first) (p .first-idk1)
+    (p .first-idk2) in
     let two = other (k .second) (parts.second-idk1 m t) (parts.second-idk2 m t) (f .second) (p .second-idk1)
     (p .second-idk2) in
     let vector = ap nonempty (p .iv) ∙ iv-back (k .iv) (f .iv) in
@@ -110,6 +113,7 @@ pub record Reads-ksm (t : Text) (m : reader-ksm.Ksm) : Type 0 where
   pub body : reading .body ≡ ksm (ksm-in m t)
   pub good : Ksm-read m t
 
+-- a text that is read as a KSM
 pub reads-ksm : (t : Text) (m : reader-ksm.Ksm) → seen (read t) ≡ message.Ksm m → Reads-ksm t m
 reads-ksm t m e = go (ksm-back t m e)
   where
@@ -132,10 +136,12 @@ reads-ksm t m e = go (ksm-back t m e)
 
 -- its count, and its date
 module _ (m : reader-ksm.Ksm) (t : Text) (good : Ksm-read m t) where
+  -- its count is one
   pub count-within : within 1 limit (m .ctp) ≡ true
   unfolding ksm-in
   count-within = legal-fields (ksm-in m t) (good .lawful) .count
 
+  -- its date is the digits of its EDK
   pub date-same : date-over (parts.edk m t) ≡ date-of (ksm-in m t .edk)
   unfolding ksm-in
   date-same = go (parts.edk m t) (legal-fields (ksm-in m t) (good .lawful) .edk)
@@ -155,6 +161,7 @@ pub record Reads-rsm (t : Text) (m : reader-rsm.Rsm) : Type 0 where
   pub body : reading .body ≡ rsm (rsm-in m)
   pub sealed : Sealed t
 
+-- a text that is read as an RSM
 pub reads-rsm : (t : Text) (m : reader-rsm.Rsm) → seen (read t) ≡ message.Rsm m → Reads-rsm t m
 reads-rsm t m e = go (rsm-back t m e)
   where
@@ -174,14 +181,17 @@ pub record Reads-esm (t : Text) (m : reader-esm.Esm) : Type 0 where
   pub body : reading .body ≡ esm (esm-in m)
   pub fits : m .ctp .value < 2 ^ 32
 
+-- a number that may be missing, back
 option-same : (o : Option ℕ) → option-in (optional o) ≡ o
 option-same none = refl
 option-same (some n) = refl
 
+-- the CTP of an ESM fits 32 bits
 count-fits : (o : Option ℕ) → maybe-legal (field CTP) o ≡ true → optional o .value < 2 ^ 32
 count-fits none h = omega arith
 count-fits (some n) h = let w = within-true 1 limit n h in omega arith
 
+-- a text that is read as an ESM
 pub reads-esm : (t : Text) (m : reader-esm.Esm) → seen (read t) ≡ message.Esm m → Reads-esm t m
 reads-esm t m e = go (esm-back t m e)
   where

@@ -34,6 +34,7 @@ pub record Written-there (r : Reading) (l : Text) : Type 0 where
   pub count : length-of (answer r l) ≡ length (print r)
   pub text : buffer r l ≡ print r ++ drop (length (print r)) l
 
+-- so its length and the buffer are known
 pub written-there : (r : Reading) (l : Text) → 256 ≤ length l → legal r ≡ true → Written-there r l
 unfolding answer buffer writes
 written-there r l h k = record {
@@ -46,11 +47,13 @@ pub sound-name : (own : Text) (e : Entry) → sound own e ≡ true → is-name o
 unfolding sound
 sound-name own e h = and-true (is-name own) (partner.legal e) h .0
 
+-- the entry of a sound pair is legal
 pub sound-legal : (own : Text) (e : Entry) → sound own e ≡ true → partner.legal e ≡ true
 unfolding sound
 sound-legal own e h = and-true (is-name own) (partner.legal e) h .1
 
 module _ (own : Text) (e : Entry) (l : Text) (ready : Ready own e l) where
+  -- a legal body to the partner is written
   pub to-partner-written : (b : Body) → known b ≡ true → legal-body b ≡ true → Written-there (to-partner own e b) l
   to-partner-written b k lawful =
       let ours = sound-name own e (ready .lawful) in
@@ -61,6 +64,7 @@ module _ (own : Text) (e : Entry) (l : Text) (ready : Ready own e l) where
   abbrev pub esm-to : ℕ → Counts → Reading
   esm-to letters counts = esm-reading (bare (e .identity .bytes)) own letters counts
 
+  -- it is written, and it is the ESM of the steps
   esm-written : (letters : ℕ) (counts : Counts) → legal-body (esm-body letters (counts-in counts)) ≡ true
       → (Written-there (esm-to letters counts) l)
       × (esm-to letters counts ≡ to-partner own e (esm-body letters (counts-in counts)))
@@ -68,6 +72,7 @@ module _ (own : Text) (e : Entry) (l : Text) (ready : Ready own e l) where
   esm-written letters Without h = (to-partner-written _ refl h, refl)
   esm-written letters (Both x y) h = (to-partner-written _ refl h, refl)
 
+  -- 4 with its length
   pub error-turned : (letters : ℕ) (counts : Counts) (n : ℕ) → legal-body (esm-body letters (counts-in counts)) ≡ true
       → n ≡ length-of (answer (esm-to letters counts) l)
       → complained-turned e letters n ≡ turned (error own e letters (counts-in counts))
@@ -76,6 +81,7 @@ module _ (own : Text) (e : Entry) (l : Text) (ready : Ready own e l) where
       let w = esm-written letters counts h in
       ap (complained-turned e letters) (k ∙ w .0 .count ∙ ap (λ (r : Reading). length (print r)) (w .1))
 
+  -- and its text in the buffer
   pub error-replied : (letters : ℕ) (counts : Counts) → legal-body (esm-body letters (counts-in counts)) ≡ true
       → buffer (esm-to letters counts) l ≡ replied (error own e letters (counts-in counts) .outcome) l
   unfolding replied

@@ -6,13 +6,12 @@ use mathlib.Core.Option.{none, some}
 use Prim.Native.Nat.{ℕ}
 use native.Mathlib.Omega.{arith}
 use lib.Dec.{eqb}
-use borrow.Author.Tests.{eq-eqb, ne-eqb}
 use Rattle.octets.specs.Text.{Text, within}
 use Rattle.csm.specs.Message.{Ksm, Rsm, Esm, legal-body}
 use Rattle.messages.specs.declared.Counts.the-variants.{Without, Both}
 use Rattle.partner.specs.declared.KeySet.{KeySet}
 use Rattle.partner.specs.declared.Entry.{Entry}
-use Rattle.partner.specs.Entry.{limit}
+use Rattle.partner.specs.Entry.{limit, waiting, keys-in}
 use Rattle.partner.specs.Changes.{accepted, settled}
 use Rattle.partner.specs.Legal.{legal}
 use Rattle.partner.proofs.Keeping.{rules}
@@ -28,8 +27,10 @@ use Rattle.outcome.specs.declared.Handed.{Handed}
 use Rattle.outcome.specs.Report.{handed}
 use Rattle.receiving.specs.declared.keys.Opened.the-variants as opening
 use Rattle.receiving.specs.declared.judging.Judged.the-variants as judgement
+use Rattle.receiving.specs.Stages as stages
 use Rattle.receiving.specs.Stages.{any-foreign, second-key, opened, judged, counts-between, counts-in}
 
+-- nothing follows from 0 and 1 being one
 never : {A : Type 0} → _≡_ {A = ℕ} 0 1 → A
 never z = absurd (omega arith)
 
@@ -41,6 +42,7 @@ module _ (own : Text) (e : Entry) (text : Text) (m : Ksm) where
     pub lawful : legal-body (esm-body n none) ≡ true
     pub turn : error own e n none ≡ receive-ksm own e text m
 
+  -- where the stage refuses, so do the steps
   pub unopened : (n : ℕ) → opened e m ≡ opening.Error n → Unopened n
   unfolding opened receive-ksm if_then_else_
   unopened n h = go (any-foreign e m) (any (uneven e m) (kds m)) refl refl h
@@ -66,6 +68,7 @@ module _ (own : Text) (e : Entry) (text : Text) (m : Ksm) where
     pub second : b ≡ second-key e m
     pub turn : steps.judged own e text m (brought e m) ≡ receive-ksm own e text m
 
+  -- where it hands keys on, the steps judge them
   pub opens : (a b : ℕ) → opened e m ≡ opening.Keys a b → Opens a b
   unfolding opened receive-ksm if_then_else_
   opens a b h = go (any-foreign e m) (any (uneven e m) (kds m)) refl refl h
@@ -133,28 +136,35 @@ counts-same e m = go (bad-count (e .expected) (m .ctp))
 -- ---- an RSM
 
 module _ (own : Text) (e : Entry) (text : Text) (m : Rsm) where
-  pub rsm-idle : (e .phase ≡ 1 → ⊥) → refused e 5 ≡ receive-rsm own e text m
+  -- not waiting: 5
+  pub rsm-idle : eqb (e .phase) waiting ≡ false → refused e 5 ≡ receive-rsm own e text m
   unfolding receive-rsm is-waiting if_then_else_
-  rsm-idle h = rw (ne-eqb (e .phase) 1 h)
+  rsm-idle h = rw h
 
-  pub rsm-bad : e .phase ≡ 1 → bad-mac (e .outgoing) text (m .mac) ≡ true → error own e M none ≡ receive-rsm own e text m
-  unfolding receive-rsm is-waiting if_then_else_
-  rsm-bad h b = rw (eq-eqb (e .phase) 1 h, b)
+  -- the MAC differs: 4 with M
+  pub rsm-bad : eqb (e .phase) waiting ≡ true → stages.bad-mac (keys-in (e .outgoing)) text (m .mac) ≡ true
+      → error own e M none ≡ receive-rsm own e text m
+  unfolding receive-rsm is-waiting if_then_else_ bad-mac stages.bad-mac
+  rsm-bad h b = rw (h, b)
 
-  pub rsm-good : e .phase ≡ 1 → bad-mac (e .outgoing) text (m .mac) ≡ false
+  -- otherwise phase 2
+  pub rsm-good : eqb (e .phase) waiting ≡ true → stages.bad-mac (keys-in (e .outgoing)) text (m .mac) ≡ false
       → done (settled e) [] confirmation ≡ receive-rsm own e text m
-  unfolding receive-rsm is-waiting if_then_else_
-  rsm-good h b = rw (eq-eqb (e .phase) 1 h, b)
+  unfolding receive-rsm is-waiting if_then_else_ bad-mac stages.bad-mac
+  rsm-good h b = rw (h, b)
 
 -- ---- an ESM
 
-pub esm-idle : (e : Entry) (m : Esm) → (e .phase ≡ 1 → ⊥) → refused e 5 ≡ receive-esm e m
+-- not waiting: 5
+pub esm-idle : (e : Entry) (m : Esm) → eqb (e .phase) waiting ≡ false → refused e 5 ≡ receive-esm e m
 unfolding receive-esm is-waiting if_then_else_
-esm-idle e m h = rw (ne-eqb (e .phase) 1 h)
+esm-idle e m h = rw h
 
-pub esm-breaks : (e : Entry) (m : Esm) → e .phase ≡ 1 → done (after-esm e m) [] (failure (m .erf)) ≡ receive-esm e m
+-- otherwise phase 3
+pub esm-breaks : (e : Entry) (m : Esm) → eqb (e .phase) waiting ≡ true
+    → done (after-esm e m) [] (failure (m .erf)) ≡ receive-esm e m
 unfolding receive-esm is-waiting if_then_else_
-esm-breaks e m h = rw (eq-eqb (e .phase) 1 h)
+esm-breaks e m h = rw h
 
 -- no ESM is ever answered
 pub esm-unanswered : (e : Entry) (m : Esm) → receive-esm e m .outcome .reply ≡ []

@@ -30,9 +30,11 @@ pub record Block (w : Text) (n : ℕ) : Type 0 where
   pub digits : is-run 70 16 16 w ≡ true
   pub is : numeral 16 0 w ≡ n
 
+-- nothing follows from 0 and 1 being one
 never : {A : Type 0} → _≡_ {A = ℕ} 0 1 → A
 never z = absurd (omega arith)
 
+-- not 16 hex digits
 pub block-none : (w : Text) → block-seen w ≡ number.Nothing → is-run 70 16 16 w ≡ false
 block-none w e = go (is-run 70 16 16 w) refl (sym (ap (λ o. number-seen (hex 16) (alone o)) (hex-value 16 w)) ∙ e)
   where
@@ -42,6 +44,7 @@ block-none w e = go (is-run 70 16 16 w) refl (sym (ap (λ o. number-seen (hex 16
     go true q e = never cc
     go false q e = q
 
+-- 16 hex digits and their number
 pub block-is : (w : Text) (n k : ℕ) → block-seen w ≡ number.Is n k → Block w n
 block-is w n k e = go (is-run 70 16 16 w) refl (sym (ap (λ o. number-seen (hex 16) (alone o)) (hex-value 16 w)) ∙ e)
   where
@@ -52,22 +55,26 @@ block-is w n k e = go (is-run 70 16 16 w) refl (sym (ap (λ o. number-seen (hex 
     go false q e = never cc
 
 module _ (ks : List ℕ) where
+  -- an empty text has no value
   pub iv-empty : (w : Text) → length w ≡ 0 → Nothing ≡ value-of (iv-value ks w)
   unfolding iv-value
   iv-empty [] h = refl
   iv-empty (x ∷ w) h = absurd (omega arith)
 
+  -- nor one without 16 hex digits
   pub iv-bad : (w : Text) → 1 ≤ length w → is-run 70 16 16 (drop 1 w) ≡ false → Nothing ≡ value-of (iv-value ks w)
   unfolding iv-value if_then_else_
   iv-bad [] h d = absurd (omega arith)
   iv-bad (x ∷ w) h d = rw (iv-value, d)
 
+  -- after P as it stands
   pub iv-plain : (w : Text) (n : ℕ) → 1 ≤ length w → Block (drop 1 w) n → getD w 0 0 ≡ 80
       → Is n ≡ value-of (iv-value ks w)
   unfolding iv-value if_then_else_
   iv-plain [] n h b p = absurd (omega arith)
   iv-plain (x ∷ w) n h b p = rw (iv-value, b .digits, eq-eqb x 80 p, b .is)
 
+  -- after E deciphered
   pub iv-hidden : (w : Text) (n : ℕ) → 1 ≤ length w → Block (drop 1 w) n → getD w 0 0 ≡ 69
       → Is (reveal ks n) ≡ value-of (iv-value ks w)
   unfolding iv-value if_then_else_
@@ -76,6 +83,7 @@ module _ (ks : List ℕ) where
       let other : eqb x 80 ≡ false = ne-eqb x 80 (omega arith) in
       rw (iv-value, b .digits, other, eq-eqb x 69 p, b .is)
 
+  -- after another character none
   pub iv-other : (w : Text) → 1 ≤ length w → is-run 70 16 16 (drop 1 w) ≡ true → (getD w 0 0 ≡ 80 → ⊥)
       → (getD w 0 0 ≡ 69 → ⊥) → Nothing ≡ value-of (iv-value ks w)
   unfolding iv-value if_then_else_

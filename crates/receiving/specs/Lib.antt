@@ -1,2 +1,2 @@
-pub mod Messages
+pub mod Texts
 pub mod Stages

@@ -1,6 +1,7 @@
 -- The stages of receive, in the code's values: what each hands on, or the letters with which it refuses.
 use mathlib.Core.Path.{_≡_}
 use mathlib.Core.Bool.{Bool, true, false, cond, not, _||_}
+use mathlib.Core.List.{List}
 use mathlib.Core.Option.{Option, none, some}
 use Prim.Native.Nat.{ℕ, _≤_}
 use lib.Dec.{eqb}
@@ -8,9 +9,11 @@ use lib.ListN.{length}
 use Rattle.octets.specs.Text.{Text, same}
 use Rattle.octets.specs.Number.{copies}
 use Rattle.octets.specs.Wrote.{over}
+use Rattle.keying.specs.Mac.{mac-key, mac}
 use Rattle.keying.specs.Date.{is-date}
 use Rattle.csm.specs.Fields.{nonempty, named}
 use Rattle.csm.specs.Message.{Ksm}
+use Rattle.csm.specs.Covered.{covered}
 use Rattle.messages.specs.declared.Counts.{Counts}
 use Rattle.messages.specs.declared.Counts.the-variants.{Without, Both}
 use Rattle.messages.specs.declared.Written.{Written}
@@ -92,6 +95,10 @@ bad-iv iv v = some-has (λ w. not (is-value v)) (nonempty iv)
 
 unfoldable pub bad-format : Text → Value → Text → Bool
 bad-format iv v edk = bad-iv iv v || some-has (λ w. not (is-date w)) (nonempty edk)
+
+-- M: the MAC differs under these keys
+unfoldable pub bad-mac : List ℕ → Text → ℕ → Bool
+bad-mac ks text m = not (eqb (mac (mac-key ks) (covered text)) m)
 
 -- the letters of F, M and P that hold; else what is handed out
 unfoldable pub judged : Entry → KeySet → Text → Ksm → Judged

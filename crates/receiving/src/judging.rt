@@ -1,11 +1,9 @@
 // F, M and P of a KSM, all judged, and what an accepted one hands out: IV and date.
 ghost use mathlib.Core.Path.{_≡_};
 ghost use Prim.Native.Nat.{_≤_};
-ghost use Rattle.octets.specs.Number.{copies};
-ghost use Rattle.octets.specs.Wrote.{over};
 ghost use Rattle.keying.specs.Keys.{listed};
 ghost use Rattle.calls.specs.Receive as steps;
-ghost use Rattle.receiving.specs.Messages as messages;
+ghost use Rattle.receiving.specs.Texts as texts;
 ghost use Rattle.receiving.specs.Stages as stages;
 use calls::Date;
 use fields::Number;
@@ -85,12 +83,11 @@ fn bad_format(iv: &[u8], value: Value, edk: &[u8]) -> bool
 }
 
 // M: whether the MAC differs.
-pub(crate) fn bad_mac(set: KeySet, text: &[u8], mac: u64) -> bool
-    requires { ⌜ messages.Sealed (now text) ⌝ }
-    ensures { λ r. ⌜ r ≡ steps.bad-mac set (now (text .entry)) mac ⌝ }
+pub(crate) fn bad_mac(keys: DataKeys, text: &[u8], mac: u64) -> bool
+    requires { ⌜ texts.Sealed (now text) ⌝ }
+    ensures { λ r. ⌜ r ≡ stages.bad-mac (listed keys) (now (text .entry)) mac ⌝ }
 {
-    let key = keying::mac_key(partner::data_keys(set));
-    keying::mac(key, find::covered(text)) as u64 != mac
+    keying::mac(keying::mac_key(keys), find::covered(text)) as u64 != mac
 }
 
 // P: whether the count is below the expected one, or 99,999,999.
@@ -143,14 +140,15 @@ fn handed(value: Value, dated: bool) -> Handed
 
 // F, M and P are all judged: all that hold, or what is handed out.
 pub(crate) fn judge(e: Entry, set: KeySet, text: &[u8], m: Ksm) -> Judged
-    requires { ⌜ messages.Sealed (now text) ⌝ }
-    ensures { λ r. ⌜ r ≡ stages.judged e set (now (text .entry)) (messages.ksm-in m (now (text .entry))) ⌝ }
+    requires { ⌜ texts.Sealed (now text) ⌝ }
+    ensures { λ r. ⌜ r ≡ stages.judged e set (now (text .entry)) (texts.ksm-in m (now (text .entry))) ⌝ }
 {
+    let keys = partner::data_keys(set);
     let iv = find::iv(text, m);
     let edk = find::edk(text, m);
-    let value = iv_value(partner::data_keys(set), iv);
+    let value = iv_value(keys, iv);
     let format = letter(bad_format(iv, value, edk), 4);
-    let mac = letter(bad_mac(set, text, m.mac), 32);
+    let mac = letter(bad_mac(keys, text, m.mac), 32);
     let count = letter(bad_count(e.expected, m.ctp), 128);
     let letters = format + (mac + count);
     if letters != 0 {

@@ -2,8 +2,7 @@
 ghost use mathlib.Core.Path.{_≡_};
 ghost use mathlib.Core.Bool.{not, _&&_};
 ghost use Rattle.keying.specs.Parity as parity;
-ghost use Rattle.calls.specs.Receive as steps;
-ghost use Rattle.receiving.specs.Messages as messages;
+ghost use Rattle.receiving.specs.Texts as texts;
 ghost use Rattle.receiving.specs.Stages as stages;
 use partner::DataKey;
 use partner::Entry;
@@ -49,7 +48,7 @@ fn foreign<'a>(idk2: &'a [u8], name: &'a [u8]) -> bool
 
 // I: whether that of any KD is not.
 fn any_foreign(e: Entry, text: &[u8], m: Ksm) -> bool
-    ensures { λ r. ⌜ r ≡ stages.any-foreign e (messages.ksm-in m (now (text .entry))) ⌝ }
+    ensures { λ r. ⌜ r ≡ stages.any-foreign e (texts.ksm-in m (now (text .entry))) ⌝ }
 {
     let filled = e.name;
     let name = octets::bare(&filled.bytes);
@@ -74,7 +73,7 @@ fn uneven(p: bool, key: u64) -> bool
 
 // The keys deciphered under the top key offset by the message's CTP: I alone, then K alone.
 pub(crate) fn open_keys(e: Entry, text: &[u8], m: Ksm) -> Opened
-    ensures { λ r. ⌜ r ≡ stages.opened e (messages.ksm-in m (now (text .entry))) ⌝ }
+    ensures { λ r. ⌜ r ≡ stages.opened e (texts.ksm-in m (now (text .entry))) ⌝ }
 {
     if any_foreign(e, text, m) {
         return Opened::Error(8);
@@ -100,7 +99,7 @@ pub(crate) fn open_keys(e: Entry, text: &[u8], m: Ksm) -> Opened
 
 // The keys and names that a KSM brings.
 pub(crate) fn brought(first: u64, second: u64, text: &[u8], m: Ksm) -> KeySet
-    ensures { λ r. ⌜ r ≡ stages.named-keys first second (messages.ksm-in m (now (text .entry))) ⌝ }
+    ensures { λ r. ⌜ r ≡ stages.named-keys first second (texts.ksm-in m (now (text .entry))) ⌝ }
 {
     let one = DataKey {
         key: first,

@@ -1,12 +1,14 @@
 // Receive, once the partner's entry is found: by class, on one entry by value.
 ghost use mathlib.Core.Path.{_≡_};
 ghost use Prim.Native.Nat.{_^_, _<_};
+ghost use lib.Dec.{eqb};
 ghost use lib.ListN.{length};
 ghost use Rattle.csm.specs.Message as csm;
+ghost use Rattle.partner.specs.Entry.{waiting};
 ghost use Rattle.calls.specs.Receive as steps;
 ghost use Rattle.outcome.specs.Report as report;
 ghost use Rattle.outcome.specs.Acts as acts;
-ghost use Rattle.receiving.specs.Messages as messages;
+ghost use Rattle.receiving.specs.Texts as texts;
 ghost use Rattle.receiving.specs.Stages as stages;
 use judging::Judged;
 use keys::Opened;
@@ -29,9 +31,9 @@ mod replies;
 // A KSM: I alone, K alone, then F, M and P together; otherwise the keys and names replace the incoming ones.
 fn receive_ksm(own: &[u8], e: Entry, text: &[u8], m: Ksm, reply: &mut [u8]) -> Turned
     requires { ⌜ stages.Ready (now own) e (now reply) ⌝ }
-    requires { ⌜ messages.Ksm-read m (now text) ⌝ }
-    ensures { λ r. ⌜ r ≡ report.turned (steps.receive-ksm (now (own .entry)) e (now (text .entry)) (messages.ksm-in m (now (text .entry)))) ⌝ }
-    ensures { λ r. ⌜ now (reply .exit) ≡ report.replied (steps.receive-ksm (now (own .entry)) e (now (text .entry)) (messages.ksm-in m (now (text .entry))) .outcome) (now (reply .entry)) ⌝ }
+    requires { ⌜ texts.Ksm-read m (now text) ⌝ }
+    ensures { λ r. ⌜ r ≡ report.turned (steps.receive-ksm (now (own .entry)) e (now (text .entry)) (texts.ksm-in m (now (text .entry)))) ⌝ }
+    ensures { λ r. ⌜ now (reply .exit) ≡ report.replied (steps.receive-ksm (now (own .entry)) e (now (text .entry)) (texts.ksm-in m (now (text .entry))) .outcome) (now (reply .entry)) ⌝ }
 {
     let opened = keys::open_keys(e, text, m);
     let Opened::Keys { first, second } = opened else {
@@ -49,18 +51,25 @@ fn receive_ksm(own: &[u8], e: Entry, text: &[u8], m: Ksm, reply: &mut [u8]) -> T
     outcome::done(accepted, length, Telling::Keys(handed), date)
 }
 
+// Whether a key message is waiting.
+fn is_waiting(phase: u8) -> bool
+    ensures { λ r. ⌜ r ≡ eqb phase waiting ⌝ }
+{
+    phase == 1
+}
+
 // An RSM: not waiting, 5; MAC differs under the outgoing keys, 4 with M, still waiting; otherwise 0, phase 2.
 fn receive_rsm(own: &[u8], e: Entry, text: &[u8], m: Rsm, reply: &mut [u8]) -> Turned
     requires { ⌜ stages.Ready (now own) e (now reply) ⌝ }
-    requires { ⌜ messages.Sealed (now text) ⌝ }
-    ensures { λ r. ⌜ r ≡ report.turned (steps.receive-rsm (now (own .entry)) e (now (text .entry)) (messages.rsm-in m)) ⌝ }
-    ensures { λ r. ⌜ now (reply .exit) ≡ report.replied (steps.receive-rsm (now (own .entry)) e (now (text .entry)) (messages.rsm-in m) .outcome) (now (reply .entry)) ⌝ }
+    requires { ⌜ texts.Sealed (now text) ⌝ }
+    ensures { λ r. ⌜ r ≡ report.turned (steps.receive-rsm (now (own .entry)) e (now (text .entry)) (texts.rsm-in m)) ⌝ }
+    ensures { λ r. ⌜ now (reply .exit) ≡ report.replied (steps.receive-rsm (now (own .entry)) e (now (text .entry)) (texts.rsm-in m) .outcome) (now (reply .entry)) ⌝ }
 {
-    if e.phase != 1 {
+    if !is_waiting(e.phase) {
         return outcome::refused(e, 5);
     }
     let outgoing = e.outgoing;
-    if judging::bad_mac(outgoing, text, m.mac) {
+    if judging::bad_mac(partner::data_keys(outgoing), text, m.mac) {
         return replies::error(own, e, 32, Counts::Without, reply);
     }
     outcome::done(
@@ -74,7 +83,7 @@ fn receive_rsm(own: &[u8], e: Entry, text: &[u8], m: Rsm, reply: &mut [u8]) -> T
 // The entry after an ESM with that CTP, or without one.
 fn after_esm(e: Entry, ctp: Optional) -> Entry
     requires { ⌜ ctp .value < 2 ^ 32 ⌝ }
-    ensures { λ r. ⌜ r ≡ stages.after-count e (messages.option-in ctp) ⌝ }
+    ensures { λ r. ⌜ r ≡ stages.after-count e (texts.option-in ctp) ⌝ }
 {
     if ctp.there {
         return partner::failed(e, ctp.value as u32);
@@ -85,9 +94,9 @@ fn after_esm(e: Entry, ctp: Optional) -> Entry
 // An ESM: not waiting, 5; otherwise 0: phase 3, keys wiped, next send the larger of itself and CTP.
 fn receive_esm(e: Entry, m: Esm) -> Turned
     requires { ⌜ m .ctp .value < 2 ^ 32 ⌝ }
-    ensures { λ r. ⌜ r ≡ report.turned (steps.receive-esm e (messages.esm-in m)) ⌝ }
+    ensures { λ r. ⌜ r ≡ report.turned (steps.receive-esm e (texts.esm-in m)) ⌝ }
 {
-    if e.phase != 1 {
+    if !is_waiting(e.phase) {
         return outcome::refused(e, 5);
     }
     let ctp = m.ctp;

@@ -1,14 +1,34 @@
 -- `receiving::by_class` meets its contract: each class takes its own step. Assumes nothing.
-use mathlib.Core.Path.{refl, sym, ap, _∙_}
-use Rattle.outcome.specs.Report.{turned, report, done-turned}
+use mathlib.Core.Path.{_≡_, refl, sym, ap, _∙_}
+use Rattle.csm.specs.Message.{read}
+use Rattle.reader.specs.declared.Message.the-variants as message
+use Rattle.reader.specs.Seen.{seen}
 use Rattle.outcome.specs.declared.Telling.the-variants.{Service}
-use Rattle.receiving.specs.Messages.{esm-in}
-use Rattle.receiving.proofs.Classes.{no-message, is-rsi, is-option, is-ksm, is-rsm, is-esm, unreplied, replied-as}
-use Rattle.receiving.proofs.Turning.{esm-unanswered}
+use Rattle.outcome.specs.Report.{turned, report, done-turned}
+use Rattle.receiving.specs.Texts.{esm-in}
 use Rattle.receiving.proofs.Reading.{reads-ksm, reads-rsm, reads-esm}
+use Rattle.receiving.proofs.Turning.{esm-unanswered}
+use Rattle.receiving.proofs.Classes.{no-message, is-rsi, is-option, is-ksm, is-rsm, is-esm}
+use Rattle.receiving.proofs.Classes.{unreplied, replied-as}
 use borrow.Author.Needs.{needs}
 use Rattle.receiving.proofs.by_class.Statement.{statement}
 use Rattle.receiving.proofs.by_class.Tie as tie
+
+-- the text is read as that class
+ksm-seen : (c : tie.After-message2)
+    → let a = c .before .before .before .before .before .before .args in
+    seen (read (a .text .now)) ≡ message.Ksm (c .message2 .given .0 .0)
+ksm-seen c = sym (c .before .before .read .ensures) ∙ c .message2 .given .1
+
+rsm-seen : (c : tie.After-message3)
+    → let a = c .before .before .before .before .before .before .args in
+    seen (read (a .text .now)) ≡ message.Rsm (c .message3 .given .0 .0)
+rsm-seen c = sym (c .before .before .read .ensures) ∙ c .message3 .given .1
+
+esm-seen : (c : tie.After-message4)
+    → let a = c .before .before .before .before .before .before .args in
+    seen (read (a .text .now)) ≡ message.Esm (c .message4 .given .0 .0)
+esm-seen c = sym (c .before .before .read .ensures) ∙ c .message4 .given .1
 
 read-requires : tie.Need-read-requires
 read-requires c κs = search needs
@@ -27,24 +47,27 @@ enum-known-message-2 c = search needs
 
 receive-ksm-requires : tie.Need-receive-ksm-requires
 receive-ksm-requires c κs =
-    let s = c .before .before .before .before .before .before .before .before in
-    (s .pre, reads-ksm (s .args .text .now) (c .before .before .message2 .given .0 .0) (sym (c .before .before .before .before .read .ensures) ∙ c .before .before .message2 .given .1) .good)
+    let m = c .before .before in
+    let s = m .before .before .before .before .before .before in
+    (s .pre, reads-ksm (s .args .text .now) (m .message2 .given .0 .0) (ksm-seen m) .good)
 
 enum-known-message-3 : tie.Need-enum-known-message-3
 enum-known-message-3 c = search needs
 
 receive-rsm-requires : tie.Need-receive-rsm-requires
 receive-rsm-requires c κs =
-    let s = c .before .before .before .before .before .before .before .before in
-    (s .pre, reads-rsm (s .args .text .now) (c .before .before .message3 .given .0 .0) (sym (c .before .before .before .before .read .ensures) ∙ c .before .before .message3 .given .1) .sealed)
+    let m = c .before .before in
+    let s = m .before .before .before .before .before .before in
+    (s .pre, reads-rsm (s .args .text .now) (m .message3 .given .0 .0) (rsm-seen m) .sealed)
 
 enum-known-message-4 : tie.Need-enum-known-message-4
 enum-known-message-4 c = search needs
 
 receive-esm-requires : tie.Need-receive-esm-requires
 receive-esm-requires c κs =
-    let s = c .before .before .before .before .before .before .before in
-    reads-esm (s .args .text .now) (c .before .message4 .given .0 .0) (sym (c .before .before .before .read .ensures) ∙ c .before .message4 .given .1) .fits
+    let m = c .before in
+    let a = m .before .before .before .before .before .before .args in
+    reads-esm (a .text .now) (m .message4 .given .0 .0) (esm-seen m) .fits
 
 enum-told : tie.Need-enum-told
 enum-told c = search needs
@@ -61,20 +84,22 @@ refused-requires c κs = search needs
 returns : tie.Need-returns
 unfolding turned report
 returns c =
-    let a = c .before .before .before .before .before .before .before .before .before .args in
-    let m = c .before .before .before .message .given in
-    let t = is-rsi (a .own .now) (a .e) (a .text .now) (m .0 .0) (sym (c .before .before .before .before .before .read .ensures) ∙ m .1) in
-    let d = c .done .ensures ∙ (λ i. done-turned (a .e) 0 (Service (m .0 .0 .service)) (c .before .no-date .ensures i)) in
-    (d ∙ ap turned t, unreplied _ _ (a .reply .now) refl t)
+    let m = c .before .before .before in
+    let a = m .before .before .before .before .before .before .args in
+    let r = m .message .given .0 .0 in
+    let seen = sym (m .before .before .read .ensures) ∙ m .message .given .1 in
+    let t = is-rsi (a .own .now) (a .e) (a .text .now) r seen in
+    let d = ap (done-turned (a .e) 0 (Service (r .service))) (c .before .no-date .ensures) in
+    (c .done .ensures ∙ d ∙ ap turned t, unreplied _ _ (a .reply .now) refl t)
 
 same-length : tie.Need-same-length
 same-length c = search needs
 
 returns-2 : tie.Need-returns-2
 returns-2 c =
-    let a = c .before .before .before .before .before .before .before .before .before .before .before .args in
-    let m = c .before .before .before .before .before .message2 .given in
-    let t = is-ksm (a .own .now) (a .e) (a .text .now) (m .0 .0) (sym (c .before .before .before .before .before .before .before .read .ensures) ∙ m .1) in
+    let m = c .before .before .before .before .before in
+    let a = m .before .before .before .before .before .before .args in
+    let t = is-ksm (a .own .now) (a .e) (a .text .now) (m .message2 .given .0 .0) (ksm-seen m) in
     let r = c .before .before .receive-ksm .ensures in
     (r .0 ∙ ap turned t, r .1 ∙ replied-as _ _ (a .reply .now) t)
 
@@ -83,35 +108,40 @@ same-length-2 c = search needs
 
 returns-3 : tie.Need-returns-3
 returns-3 c =
-    let a = c .before .before .before .before .before .before .before .before .before .before .before .args in
-    let m = c .before .before .before .before .before .message3 .given in
-    let t = is-rsm (a .own .now) (a .e) (a .text .now) (m .0 .0) (sym (c .before .before .before .before .before .before .before .read .ensures) ∙ m .1) in
+    let m = c .before .before .before .before .before in
+    let a = m .before .before .before .before .before .before .args in
+    let t = is-rsm (a .own .now) (a .e) (a .text .now) (m .message3 .given .0 .0) (rsm-seen m) in
     let r = c .before .before .receive-rsm .ensures in
     (r .0 ∙ ap turned t, r .1 ∙ replied-as _ _ (a .reply .now) t)
 
 returns-4 : tie.Need-returns-4
 returns-4 c =
-    let a = c .before .before .before .before .before .before .before .before .args in
-    let m = c .before .before .message4 .given in
-    let t = is-esm (a .own .now) (a .e) (a .text .now) (m .0 .0) (sym (c .before .before .before .before .read .ensures) ∙ m .1) in
-    (c .receive-esm .ensures ∙ ap turned t, unreplied _ _ (a .reply .now) (esm-unanswered (a .e) (esm-in (m .0 .0))) t)
+    let m = c .before .before in
+    let a = m .before .before .before .before .before .before .args in
+    let r = m .message4 .given .0 .0 in
+    let t = is-esm (a .own .now) (a .e) (a .text .now) r (esm-seen m) in
+    (c .receive-esm .ensures ∙ ap turned t, unreplied _ _ (a .reply .now) (esm-unanswered (a .e) (esm-in r)) t)
 
 same-length-3 : tie.Need-same-length-3
 same-length-3 c = search needs
 
 returns-5 : tie.Need-returns-5
 returns-5 c =
-    let a = c .before .before .before .before .before .before .before .before .before .before .args in
-    let m = c .before .before .before .before .enum-told .given in
-    let t = is-option (a .own .now) (a .e) (a .text .now) (m .0 .0) (sym (c .before .before .before .before .before .before .read .ensures) ∙ m .1) in
+    let o = c .before .before .before .before in
+    let a = o .before .before .before .before .before .before .args in
+    let told = o .enum-told .given in
+    let seen = sym (o .before .before .read .ensures) ∙ told .1 in
+    let t = is-option (a .own .now) (a .e) (a .text .now) (told .0 .0) seen in
     let r = c .before .before .error .ensures in
     (r .0 ∙ ap turned t, r .1 ∙ replied-as _ _ (a .reply .now) t)
 
 returns-6 : tie.Need-returns-6
 unfolding turned report
 returns-6 c =
-    let a = c .before .before .before .before .before .before .before .args in
-    let t = no-message (a .own .now) (a .e) (a .text .now) (sym (c .before .before .before .read .ensures) ∙ c .before .enum-told2 .given .1) in
+    let n = c .before in
+    let a = n .before .before .before .before .before .before .args in
+    let seen = sym (n .before .before .read .ensures) ∙ n .enum-told2 .given .1 in
+    let t = no-message (a .own .now) (a .e) (a .text .now) seen in
     (c .refused .ensures ∙ ap turned t, unreplied _ _ (a .reply .now) refl t)
 
 pub by-class-spec : {M : Type 1} → statement M

@@ -1,19 +1,19 @@
--- `receiving::receive_ksm` meets its contract: each stage refuses with its letters, or hands on to the next. Assumes nothing.
+-- `receiving::receive_ksm` meets its contract: stage by stage, with letters or the next. Assumes nothing.
 use mathlib.Core.Path.{_≡_, ap, _∙_}
 use native.Mathlib.Omega.{arith}
 use Rattle.csm.proofs.TextLaws.{within-true}
 use Rattle.partner.specs.Entry.{limit}
 use Rattle.calls.specs.Receive.{judged, receive-ksm}
-use Rattle.outcome.specs.Report.{turned, done-turned}
 use Rattle.outcome.specs.declared.Telling.the-variants.{Keys}
+use Rattle.outcome.specs.Report.{turned, done-turned}
+use Rattle.receiving.specs.Texts.{ksm-in}
 use Rattle.receiving.specs.Stages.{counts-in, date-over}
-use Rattle.receiving.specs.Messages.{ksm-in}
-use Rattle.receiving.proofs.Classes.{replied-as}
-use Rattle.receiving.proofs.KeyMessage.{stage-accepted, stage-replied}
-use Rattle.receiving.proofs.KeyMessage.{Refuses, stage-unopened, stage-opened, stage-misjudged}
-use Rattle.receiving.proofs.Turning.{Unopened}
-use Rattle.receiving.proofs.Reading.{count-within}
 use Rattle.receiving.proofs.Replying.{sound-legal}
+use Rattle.receiving.proofs.Reading.{count-within}
+use Rattle.receiving.proofs.Turning.{Unopened}
+use Rattle.receiving.proofs.KeyMessage.{Refuses, stage-unopened, stage-opened, stage-misjudged}
+use Rattle.receiving.proofs.KeyMessage.{stage-accepted, stage-replied}
+use Rattle.receiving.proofs.Classes.{replied-as}
 use borrow.Author.Needs.{needs}
 use Rattle.receiving.proofs.receive_ksm.Statement.{statement}
 use Rattle.receiving.proofs.receive_ksm.Tie as tie
@@ -44,14 +44,14 @@ opened-at c =
 
 -- F, M or P: the letters with the counts, and the turn
 misjudged-at : (c : tie.After-letters-of2)
-    → let s = c .before .before .before .before .before .before .before .before .before .before .before .before .before in
-    let j = c .before .before .before .before in
+    → let j = c .before .before .before .before in
+    let s = j .before .before .before .before .before .before .before .before .before in
     Refuses (s .args .own .now) (s .args .e) (s .args .m) (s .args .text .now) (s .pre .1) (j .before .brought .result)
     (opened-at (j .before)) (j .judge .result) (j .judge .ensures) (c .letters-of2 .result)
     (counts-in (c .before .counts-for .result))
 misjudged-at c =
-    let s = c .before .before .before .before .before .before .before .before .before .before .before .before .before in
     let j = c .before .before .before .before in
+    let s = j .before .before .before .before .before .before .before .before .before in
     let told = c .before .before .enum-told2 .given in
     stage-misjudged (s .args .own .now) (s .args .e) (s .args .m) (s .args .text .now) (s .pre .1)
     (j .before .brought .result) (opened-at (j .before)) (j .judge .result) (j .judge .ensures)
@@ -71,16 +71,19 @@ letters-of-requires : tie.Need-letters-of-requires
 letters-of-requires c κs = search needs
 
 error-requires : tie.Need-error-requires
-error-requires c κs = (c .before .before .before .before .before .before .before .before .pre .0, unopened-at (c .before) .lawful)
+error-requires c κs =
+    let l = c .before in
+    (l .before .before .before .before .before .before .before .pre .0, unopened-at l .lawful)
 
 same-length : tie.Need-same-length
 same-length c = search needs
 
 returns : tie.Need-returns
 returns c =
-    let a = c .before .before .before .before .before .before .before .before .before .before .before .args in
-    let t = unopened-at (c .before .before .before .before) .turn in
+    let l = c .before .before .before .before in
+    let t = unopened-at l .turn in
     let r = c .before .before .error .ensures in
+    let a = l .before .before .before .before .before .before .before .args in
     (r .0 ∙ ap turned t, r .1 ∙ replied-as _ _ (a .reply .now) t)
 
 brought-requires : tie.Need-brought-requires
@@ -102,16 +105,21 @@ letters-of-requires-2 : tie.Need-letters-of-requires-2
 letters-of-requires-2 c κs = search needs
 
 error-requires-2 : tie.Need-error-requires-2
-error-requires-2 c κs = (c .before .before .before .before .before .before .before .before .before .before .before .before .before .before .pre .0, misjudged-at (c .before) .lawful)
+error-requires-2 c κs =
+    let l = c .before in
+    let j = l .before .before .before .before in
+    (j .before .before .before .before .before .before .before .before .before .pre .0, misjudged-at l .lawful)
 
 same-length-2 : tie.Need-same-length-2
 same-length-2 c = search needs
 
 returns-2 : tie.Need-returns-2
 returns-2 c =
-    let a = c .before .before .before .before .before .before .before .before .before .before .before .before .before .before .before .before .before .args in
-    let t = misjudged-at (c .before .before .before .before) .refusal in
+    let l = c .before .before .before .before in
+    let j = l .before .before .before .before in
+    let t = misjudged-at l .refusal in
     let r = c .before .before .error2 .ensures in
+    let a = j .before .before .before .before .before .before .before .before .before .args in
     (r .0 ∙ ap turned t, r .1 ∙ replied-as _ _ (a .reply .now) t)
 
 confirm-requires : tie.Need-confirm-requires
@@ -125,7 +133,8 @@ date-of-requires c κs = search needs
 
 cast-accepted : tie.Need-cast-accepted
 cast-accepted c =
-    let s = c .before .before .before .before .before .before .before .before .before .before .before .before .before .before .before .before .before .before .before in
+    let j = c .before .before .before .before .before .before .before .before .before .before in
+    let s = j .before .before .before .before .before .before .before .before .before in
     let n = within-true 1 limit (s .args .m .ctp) (count-within (s .args .m) (s .args .text .now) (s .pre .1)) in
     record { fits = omega (arith, n .1) }
 
@@ -140,19 +149,22 @@ same-length-3 c = search needs
 
 returns-3 : tie.Need-returns-3
 returns-3 c =
-    let s = c .before .before .before .before .before .before .before .before .before .before .before .before .before .before .before .before .before .before .before .before .before in
+    let w = c .before .before .before .before .before .before .before in
+    let g = w .before .before .before in
+    let j = g .before .before in
+    let s = j .before .before .before .before .before .before .before .before .before in
     let a = s .args in
-    let j = c .before .before .before .before .before .before .before .before .before .before .before .before in
-    let told = c .before .before .before .before .before .before .before .before .before .before .judged .given in
+    let told = g .judged .given in
     let set = j .before .brought .result in
+    let date = c .before .before .before .date-of .ensures
+    ∙ ap date-over (c .before .before .before .before .edk .ensures) in
     let done = c .done .ensures
-    ∙ (λ i. done-turned (c .before .accepted .ensures i) (c .before .before .before .before .before .before .before .confirm .ensures .0 i) (Keys (told .0 .0))
-    ((c .before .before .before .date-of .ensures ∙ ap date-over (c .before .before .before .before .edk .ensures)) i)) in
+    ∙ (λ i. done-turned (c .before .accepted .ensures i) (w .confirm .ensures .0 i) (Keys (told .0 .0)) (date i)) in
     let turn = stage-accepted (a .own .now) (a .e) (a .m) (a .text .now) (s .pre .1) set (opened-at (j .before))
     (j .judge .result) (j .judge .ensures) (told .0 .0) (told .1) in
     let reply = stage-replied (a .own .now) (a .e) (a .m) (a .text .now) (s .pre .1) set (opened-at (j .before))
     (j .judge .result) (j .judge .ensures) (told .0 .0) (a .reply .now) (told .1) in
-    (done ∙ turn, c .before .before .before .before .before .before .before .confirm .ensures .1 ∙ reply)
+    (done ∙ turn, w .confirm .ensures .1 ∙ reply)
 
 pub receive-ksm-spec : {M : Type 1} → statement M
 receive-ksm-spec =

@@ -1,13 +1,36 @@
 -- `receiving::receive_rsm` meets its contract: not waiting, a MAC that differs, or confirmed. Assumes nothing.
-use mathlib.Core.Path.{refl, sym, ap, _∙_}
-use Rattle.outcome.specs.Report.{turned, report, done-turned}
+use mathlib.Core.Path.{_≡_, refl, sym, ap, _∙_}
+use mathlib.Core.Bool.{true}
+use mathlib.Core.List.{List}
+use Prim.Native.Nat.{ℕ}
+use lib.Dec.{eqb}
+use borrow.Author.Tests.{not-true, not-false}
+use Rattle.partner.specs.Entry.{waiting, keys-in}
 use Rattle.outcome.specs.declared.Telling.the-variants.{Confirmation}
-use Rattle.receiving.specs.Messages.{rsm-in}
-use Rattle.receiving.proofs.Classes.{unreplied, replied-as}
+use Rattle.outcome.specs.Report.{turned, report, done-turned}
+use Rattle.receiving.specs.Texts.{rsm-in}
+use Rattle.receiving.specs.Stages.{bad-mac}
 use Rattle.receiving.proofs.Turning.{rsm-idle, rsm-bad, rsm-good}
+use Rattle.receiving.proofs.Classes.{unreplied, replied-as}
 use borrow.Author.Needs.{needs}
 use Rattle.receiving.proofs.receive_rsm.Statement.{statement}
 use Rattle.receiving.proofs.receive_rsm.Tie as tie
+
+-- it is waiting
+waits : (c : tie.Else1) → eqb (c .before .before .before .before .before .args .e .phase) waiting ≡ true
+waits c = sym (c .before .is-waiting .ensures) ∙ not-false _ (c .if1 .left)
+
+-- M under the outgoing keys
+mac : (c : tie.After-bad-mac)
+    → let a = c .before .before .before .before .before .before .before .before .args in
+    bad-mac (keys-in (a .e .outgoing)) (a .text .now) (a .m .mac) ≡ c .bad-mac .result
+mac c =
+    let a = c .before .before .before .before .before .before .before .before .args in
+    let keys = c .before .data-keys .ensures in
+    sym (c .bad-mac .ensures ∙ ap (λ (ks : List ℕ). bad-mac ks (a .text .now) (a .m .mac)) keys)
+
+is-waiting-requires : tie.Need-is-waiting-requires
+is-waiting-requires c κs = search needs
 
 refused-requires : tie.Need-refused-requires
 refused-requires c κs = search needs
@@ -15,9 +38,14 @@ refused-requires c κs = search needs
 returns : tie.Need-returns
 unfolding turned report
 returns c =
-    let a = c .before .before .before .before .before .before .args in
-    let t = rsm-idle (a .own .now) (a .e) (a .text .now) (rsm-in (a .m)) (c .before .if1 .taken) in
+    let n = c .before in
+    let a = n .before .before .before .before .before .args in
+    let idle = sym (n .before .is-waiting .ensures) ∙ not-true _ (n .if1 .taken) in
+    let t = rsm-idle (a .own .now) (a .e) (a .text .now) (rsm-in (a .m)) idle in
     (c .refused .ensures ∙ ap turned t, unreplied _ _ (a .reply .now) refl t)
+
+data-keys-requires : tie.Need-data-keys-requires
+data-keys-requires c κs = search needs
 
 bad-mac-requires : tie.Need-bad-mac-requires
 bad-mac-requires c κs = search needs
@@ -30,9 +58,11 @@ same-length c = search needs
 
 returns-2 : tie.Need-returns-2
 returns-2 c =
-    let a = c .before .before .before .before .before .before .before .before .before .before .before .before .args in
-    let m = sym (c .before .before .before .before .before .bad-mac .ensures) ∙ c .before .before .before .before .if2 .taken in
-    let t = rsm-bad (a .own .now) (a .e) (a .text .now) (rsm-in (a .m)) (c .before .before .before .before .before .before .before .if1 .left) m in
+    let n = c .before .before .before .before in
+    let w = n .before .before .before .before in
+    let a = w .before .before .before .before .before .args in
+    let bad = mac (n .before) ∙ n .if2 .taken in
+    let t = rsm-bad (a .own .now) (a .e) (a .text .now) (rsm-in (a .m)) (waits w) bad in
     let r = c .before .before .error .ensures in
     (r .0 ∙ ap turned t, r .1 ∙ replied-as _ _ (a .reply .now) t)
 
@@ -48,9 +78,11 @@ done-requires c κs = search needs
 returns-3 : tie.Need-returns-3
 unfolding turned report
 returns-3 c =
-    let a = c .before .before .before .before .before .before .before .before .before .before .before .args in
-    let m = sym (c .before .before .before .before .bad-mac .ensures) ∙ c .before .before .before .if2 .left in
-    let t = rsm-good (a .own .now) (a .e) (a .text .now) (rsm-in (a .m)) (c .before .before .before .before .before .before .if1 .left) m in
+    let y = c .before .before .before in
+    let w = y .before .before .before .before in
+    let a = w .before .before .before .before .before .args in
+    let good = mac (y .before) ∙ y .if2 .left in
+    let t = rsm-good (a .own .now) (a .e) (a .text .now) (rsm-in (a .m)) (waits w) good in
     let d = c .done .ensures
     ∙ (λ i. done-turned (c .before .before .settled .ensures i) 0 Confirmation (c .before .no-date .ensures i)) in
     (d ∙ ap turned t, unreplied _ _ (a .reply .now) refl t)
@@ -59,8 +91,10 @@ pub receive-rsm-spec : {M : Type 1} → statement M
 receive-rsm-spec =
     tie.close
     (tie.spec
+    is-waiting-requires
     refused-requires
     returns
+    data-keys-requires
     bad-mac-requires
     error-requires
     same-length

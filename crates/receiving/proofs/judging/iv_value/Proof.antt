@@ -8,7 +8,8 @@ use Rattle.octets.specs.Text.{Text}
 use Rattle.keying.specs.Keys.{listed}
 use Rattle.fields.specs.declared.Number.{Number}
 use Rattle.receiving.specs.declared.judging.Value.the-variants.{Is}
-use Rattle.receiving.proofs.Vectors.{Block, block-seen, block-none, block-is, iv-empty, iv-bad, iv-plain, iv-hidden, iv-other}
+use Rattle.receiving.proofs.Vectors.{Block, block-seen, block-none, block-is}
+use Rattle.receiving.proofs.Vectors.{iv-empty, iv-bad, iv-plain, iv-hidden, iv-other}
 use borrow.Author.Needs.{needs}
 use Rattle.receiving.proofs.judging.iv_value.Statement.{statement}
 use Rattle.receiving.proofs.judging.iv_value.Tie as tie
@@ -51,8 +52,8 @@ enum-told c = search needs
 returns-2 : tie.Need-returns-2
 returns-2 c =
     let a = c .before .before .before .before .before .before .args in
-    iv-bad (listed (a .keys)) (a .w .now) (omega arith)
-    (block-none (drop 1 (a .w .now)) (whole (a .w .now) _ (sym (c .before .before .block .ensures) ∙ c .enum-told .given .1)))
+    let seen = whole (a .w .now) _ (sym (c .before .before .block .ensures) ∙ c .enum-told .given .1) in
+    iv-bad (listed (a .keys)) (a .w .now) (omega arith) (block-none (drop 1 (a .w .now)) seen)
 
 shared-slice-read-if2 : tie.Need-shared-slice-read-if2
 shared-slice-read-if2 c = search needs

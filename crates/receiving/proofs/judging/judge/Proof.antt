@@ -1,15 +1,54 @@
 -- `receiving::judging::judge` meets its contract: the three letters are the faults. Assumes nothing.
+use mathlib.Core.Path.{_≡_, ap, _∙_}
 use mathlib.Core.Bool.{Bool, not}
-use mathlib.Core.Path.{ap, _∙_}
-use lib.ListN.{length}
+use mathlib.Core.List.{List}
+use Prim.Native.Nat.{ℕ}
 use lib.Dec.{eqb}
-use Rattle.calls.specs.Receive.{iv-value, when}
+use lib.ListN.{length}
+use Rattle.reader.specs.Parts as parts
+use Rattle.partner.specs.Entry.{keys-in}
 use Rattle.calls.specs.Outcome.{F, M, P}
-use Rattle.receiving.specs.Stages.{value-of, bad-format, handed-out}
+use Rattle.calls.specs.Receive.{iv-value, bad-count, when}
+use Rattle.receiving.specs.Stages.{value-of, bad-format, bad-mac, handed-out}
 use Rattle.receiving.proofs.Faults.{judge-error, judge-good}
 use borrow.Author.Needs.{needs}
 use Rattle.receiving.proofs.judging.judge.Statement.{statement}
 use Rattle.receiving.proofs.judging.judge.Tie as tie
+
+-- the value of the IV
+value : (c : tie.After-iv-value)
+    → let a = c .before .before .before .before .before .args in
+    c .iv-value .result ≡ value-of (iv-value (keys-in (a .set)) (parts.iv (a .m) (a .text .now)))
+value c =
+    let iv = c .before .before in
+    c .iv-value .ensures ∙ (λ i. value-of (iv-value (iv .before .data-keys .ensures i) (iv .iv .ensures i)))
+
+-- the letters of F, M and P
+format : (c : tie.After-letter)
+    → let v = c .before .before in
+    let a = v .before .before .before .before .before .args in
+    c .letter .result
+    ≡ when (bad-format (parts.iv (a .m) (a .text .now)) (v .iv-value .result) (parts.edk (a .m) (a .text .now))) F
+format c =
+    let v = c .before .before in
+    let edk = v .before in
+    c .letter .ensures .0 ∙ ap (λ (b : Bool). when b F) (c .before .bad-format .ensures)
+    ∙ (λ i. when (bad-format (edk .before .iv .ensures i) (v .iv-value .result) (edk .edk .ensures i)) F)
+
+mac : (c : tie.After-letter2)
+    → let a = c .before .before .before .before .before .before .before .before .before .args in
+    c .letter2 .result ≡ when (bad-mac (keys-in (a .set)) (a .text .now) (a .m .mac)) M
+mac c =
+    let keys = c .before .before .before .before .before .before .before in
+    let a = keys .before .before .args in
+    c .letter2 .ensures .0
+    ∙ ap (λ (b : Bool). when b M) (c .before .bad-mac .ensures
+    ∙ ap (λ (ks : List ℕ). bad-mac ks (a .text .now) (a .m .mac)) (keys .data-keys .ensures))
+
+count : (c : tie.After-letter3)
+    → let a = c .before .before .before .before .before .before .before .before .before .before .before .args in
+    c .letter3 .result ≡ when (bad-count (a .e .expected) (a .m .ctp)) P
+count c = c .letter3 .ensures .0 ∙ ap (λ (b : Bool). when b P) (c .before .bad-count .ensures)
 
 iv-requires : tie.Need-iv-requires
 iv-requires c κs = search needs
@@ -49,37 +88,35 @@ add-letters-2 c = search needs
 
 returns : tie.Need-returns
 returns c =
-    let a = c .before .before .before .before .before .before .before .before .before .before .before .before .args in
-    let iv = c .before .before .before .before .before .before .before .iv-value .ensures
-    ∙ (λ i. value-of (iv-value (c .before .before .before .before .before .before .before .before .data-keys .ensures i) (c .before .before .before .before .before .before .before .before .before .before .iv .ensures i))) in
-    let x = c .before .before .before .before .before .letter .ensures .0 ∙ ap (λ (b : Bool). when b F) (c .before .before .before .before .before .before .bad-format .ensures)
-    ∙ (λ i. when (bad-format (c .before .before .before .before .before .before .before .before .before .before .iv .ensures i) (c .before .before .before .before .before .before .before .iv-value .result) (c .before .before .before .before .before .before .before .before .before .edk .ensures i)) F) in
-    let y = c .before .before .before .letter2 .ensures .0 ∙ ap (λ (b : Bool). when b M) (c .before .before .before .before .bad-mac .ensures) in
-    let z = c .before .letter3 .ensures .0 ∙ ap (λ (b : Bool). when b P) (c .before .before .bad-count .ensures) in
-    judge-error (a .e) (a .set) (a .m) (a .text .now) _ iv _ _ _ x y z (c .if1 .taken)
+    let p = c .before in
+    let m = p .before .before in
+    let f = m .before .before in
+    let v = f .before .before in
+    let a = v .before .before .before .before .before .args in
+    judge-error (a .e) (a .set) (a .m) (a .text .now) _ (value v) _ _ _ (format f) (mac m) (count p) (c .if1 .taken)
 
 handed-requires : tie.Need-handed-requires
 handed-requires c κs = search needs
 
 returns-2 : tie.Need-returns-2
 returns-2 c =
-    let a = c .before .before .before .before .before .before .before .before .before .before .before .before .before .args in
-    let iv = c .before .before .before .before .before .before .before .before .iv-value .ensures
-    ∙ (λ i. value-of (iv-value (c .before .before .before .before .before .before .before .before .before .data-keys .ensures i) (c .before .before .before .before .before .before .before .before .before .before .before .iv .ensures i))) in
-    let x = c .before .before .before .before .before .before .letter .ensures .0 ∙ ap (λ (b : Bool). when b F) (c .before .before .before .before .before .before .before .bad-format .ensures)
-    ∙ (λ i. when (bad-format (c .before .before .before .before .before .before .before .before .before .before .before .iv .ensures i) (c .before .before .before .before .before .before .before .before .iv-value .result) (c .before .before .before .before .before .before .before .before .before .before .edk .ensures i)) F) in
-    let y = c .before .before .before .before .letter2 .ensures .0 ∙ ap (λ (b : Bool). when b M) (c .before .before .before .before .before .bad-mac .ensures) in
-    let z = c .before .before .letter3 .ensures .0 ∙ ap (λ (b : Bool). when b P) (c .before .before .before .bad-count .ensures) in
-    judge-good (a .e) (a .set) (a .m) (a .text .now) _ iv _ _ _ x y z (c .handed .result)
-    (c .handed .ensures ∙ (λ i. handed-out (c .before .before .before .before .before .before .before .before .iv-value .result) (not (eqb (length (c .before .before .before .before .before .before .before .before .before .before .edk .ensures i)) 0)))) (c .before .if1 .left)
+    let p = c .before .before in
+    let m = p .before .before in
+    let f = m .before .before in
+    let v = f .before .before in
+    let a = v .before .before .before .before .before .args in
+    let handed = c .handed .ensures
+    ∙ (λ i. handed-out (v .iv-value .result) (not (eqb (length (v .before .edk .ensures i)) 0))) in
+    judge-good (a .e) (a .set) (a .m) (a .text .now) _ (value v) _ _ _ (format f) (mac m) (count p) _ handed
+    (c .before .if1 .left)
 
 pub judge-spec : {M : Type 1} → statement M
 judge-spec =
     tie.close
     (tie.spec
+    data-keys-requires
     iv-requires
     edk-requires
-    data-keys-requires
     iv-value-requires
     bad-format-requires
     letter-requires

@@ -1,6 +1,5 @@
 -- `receiving::keys::any_foreign` meets its contract: one KD after the other. Assumes nothing.
-use mathlib.Core.Bool.{true, false}
-use mathlib.Core.Path.{_≡_}
+use mathlib.Core.Path.{_≡_, sym, _∙_}
 use borrow.Author.Tests.{not-true, not-false}
 use Rattle.octets.specs.Part.{bare}
 use Rattle.reader.specs.Parts as parts
@@ -9,6 +8,14 @@ use Rattle.receiving.proofs.Opening.{foreign-first, foreign-one, foreig
 use borrow.Author.Needs.{needs}
 use Rattle.receiving.proofs.keys.any_foreign.Statement.{statement}
 use Rattle.receiving.proofs.keys.any_foreign.Tie as tie
+
+-- I of the first KD
+first : (c : tie.After-foreign)
+    → let a = c .before .before .before .before .before .before .before .before .args in
+    foreign-name (parts.first-idk2 (a .m) (a .text .now)) (bare (a .e .name .bytes)) ≡ c .foreign .result
+first c =
+    sym (c .foreign .ensures
+    ∙ (λ i. foreign-name (c .before .first-idk2 .ensures i) (c .before .before .bare .ensures i)))
 
 bare-requires : tie.Need-bare-requires
 bare-requires c κs = search needs
@@ -22,14 +29,13 @@ foreign-requires c κs = search needs
 returns : tie.Need-returns
 returns c =
     let a = c .before .before .before .before .before .before .before .before .before .args in
-    let h : foreign-name (parts.first-idk2 (a .m) (a .text .now)) (bare (a .e .name .bytes)) ≡ true = cc in
-    foreign-first (a .e) (a .m) (a .text .now) h
+    foreign-first (a .e) (a .m) (a .text .now) (first (c .before) ∙ c .if1 .taken)
 
 returns-2 : tie.Need-returns-2
 returns-2 c =
-    let a = c .before .before .before .before .before .before .before .before .before .before .before .args in
-    let h : foreign-name (parts.first-idk2 (a .m) (a .text .now)) (bare (a .e .name .bytes)) ≡ false = cc in
-    foreign-one (a .e) (a .m) (a .text .now) h (not-true _ (c .if2 .taken))
+    let f = c .before .before in
+    let a = f .before .before .before .before .before .before .before .before .before .args in
+    foreign-one (a .e) (a .m) (a .text .now) (first (f .before) ∙ f .if1 .left) (not-true _ (c .if2 .taken))
 
 second-idk2-requires : tie.Need-second-idk2-requires
 second-idk2-requires c κs = search needs
@@ -39,9 +45,12 @@ foreign-requires-2 c κs = search needs
 
 returns-3 : tie.Need-returns-3
 returns-3 c =
-    let a = c .before .before .before .before .before .before .before .before .before .before .before .before .before .args in
-    let h : foreign-name (parts.first-idk2 (a .m) (a .text .now)) (bare (a .e .name .bytes)) ≡ false = cc in
-    foreign-two (a .e) (a .m) (a .text .now) (c .foreign2 .result) h (not-false _ (c .before .before .if2 .left)) cc
+    let f = c .before .before .before .before in
+    let a = f .before .before .before .before .before .before .before .before .before .args in
+    let name = f .before .before .before .bare .ensures in
+    foreign-two (a .e) (a .m) (a .text .now) (c .foreign2 .result) (first (f .before) ∙ f .if1 .left)
+    (not-false _ (c .before .before .if2 .left))
+    (c .foreign2 .ensures ∙ (λ i. foreign-name (c .before .second-idk2 .ensures i) (name i)))
 
 pub any-foreign-spec : {M : Type 1} → statement M
 any-foreign-spec =

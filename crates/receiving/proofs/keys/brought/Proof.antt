@@ -1,5 +1,9 @@
 -- `receiving::keys::brought` meets its contract: one KD or two. Assumes nothing.
+use mathlib.Core.Path.{ap, _∙_}
 use borrow.Author.Tests.{not-true, not-false}
+use Rattle.octets.specs.Text.{Text}
+use Rattle.partner.specs.declared.Name.{Name}
+use Rattle.partner.specs.Entry.{name-of, one-key, two-keys}
 use Rattle.receiving.proofs.Opening.{keys-of-one, keys-of-two}
 use borrow.Author.Needs.{needs}
 use Rattle.receiving.proofs.keys.brought.Statement.{statement}
@@ -17,7 +21,10 @@ one-key-requires c κs = search needs
 returns : tie.Need-returns
 returns c =
     let a = c .before .before .before .before .before .before .args in
-    cc (keys-of-one (a .first) (a .second) (a .m) (a .text .now) (not-true _ (c .before .if1 .taken)))
+    let n = c .before .before .before in
+    let name = n .name-of .ensures ∙ ap (λ (w : Text). name-of w) (n .before .first-idk1 .ensures) in
+    c .one-key .ensures ∙ ap (λ (n : Name). one-key (record { key = a .first; name = n })) name
+    ∙ keys-of-one (a .first) (a .second) (a .m) (a .text .now) (not-true _ (c .before .if1 .taken))
 
 second-idk1-requires : tie.Need-second-idk1-requires
 second-idk1-requires c κs = search needs
@@ -31,7 +38,12 @@ two-keys-requires c κs = search needs
 returns-2 : tie.Need-returns-2
 returns-2 c =
     let a = c .before .before .before .before .before .before .before .before .args in
-    cc (keys-of-two (a .first) (a .second) (a .m) (a .text .now) (not-false _ (c .before .before .before .if1 .left)))
+    let n = c .before .before .before .before .before in
+    let name = n .name-of .ensures ∙ ap (λ (w : Text). name-of w) (n .before .first-idk1 .ensures) in
+    let other = c .before .name-of2 .ensures ∙ ap (λ (w : Text). name-of w) (c .before .before .second-idk1 .ensures) in
+    c .two-keys .ensures
+    ∙ (λ i. two-keys (record { key = a .first; name = name i }) (record { key = a .second; name = other i }))
+    ∙ keys-of-two (a .first) (a .second) (a .m) (a .text .now) (not-false _ (c .before .before .before .if1 .left))
 
 pub brought-spec : {M : Type 1} → statement M
 brought-spec =

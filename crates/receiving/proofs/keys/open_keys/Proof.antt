@@ -1,13 +1,63 @@
 -- `receiving::keys::open_keys` meets its contract: I, then K of each KD. Assumes nothing.
-use mathlib.Core.Bool.{true, false}
-use mathlib.Core.Path.{_≡_}
+use mathlib.Core.Path.{_≡_, sym, ap, _∙_}
+use mathlib.Core.Bool.{false, not, _&&_}
+use Prim.Native.Nat.{ℕ}
 use borrow.Author.Tests.{not-true, not-false}
+use Rattle.keying.specs.declared.Top.{Top}
+use Rattle.keying.specs.Parity.{odd}
+use Rattle.keying.specs.Keys.{working, unseal}
+use Rattle.receiving.specs.declared.keys.Opened.the-variants.{Keys}
+use Rattle.receiving.specs.Texts.{ksm-in}
 use Rattle.receiving.specs.Stages.{any-foreign}
-use Rattle.receiving.specs.Messages.{ksm-in}
-use Rattle.receiving.proofs.Opening.{uneven-key, opened-foreign, open-first, open-one, open-second, open-two}
+use Rattle.receiving.proofs.Opening.{plain, uneven-key, opened-foreign}
+use Rattle.receiving.proofs.Opening.{open-first, open-one, open-second, open-two}
 use borrow.Author.Needs.{needs}
 use Rattle.receiving.proofs.keys.open_keys.Statement.{statement}
 use Rattle.receiving.proofs.keys.open_keys.Tie as tie
+
+-- no IDK2 is another's
+ours : (c : tie.Else1)
+    → let a = c .before .before .before .args in
+    any-foreign (a .e) (ksm-in (a .m) (a .text .now)) ≡ false
+ours c = sym (c .before .any-foreign .ensures) ∙ c .if1 .left
+
+-- the first key deciphered, and K of it
+first-plain : (c : tie.After-unseal)
+    → let a = c .before .before .before .before .before .before .before .before .args in
+    c .unseal .result ≡ plain (a .e) (a .m) (a .text .now) (a .m .first)
+first-plain c =
+    let a = c .before .before .before .before .before .before .before .before .args in
+    let key = c .before .before .before .working .ensures
+    ∙ ap (λ (t : Top). working t (a .m .ctp)) (c .before .before .before .before .top-of .ensures) in
+    c .unseal .ensures ∙ ap (λ (t : Top). unseal t (a .m .first .kd .key)) key
+
+first-uneven : (c : tie.After-uneven)
+    → let a = c .before .before .before .before .before .before .before .before .before .args in
+    uneven-key (a .e) (a .m) (a .text .now) (a .m .first) ≡ c .uneven .result
+first-uneven c =
+    let a = c .before .before .before .before .before .before .before .before .before .args in
+    sym (c .uneven .ensures ∙ ap (λ (k : ℕ). a .m .first .kd .p && not (odd k)) (first-plain (c .before)))
+
+-- the second key deciphered, and K of it
+second-plain : (c : tie.After-unseal2)
+    → let f = c .before .before .before .before .before .before .before in
+    let a = f .before .before .before .before .before .before .before .before .args in
+    c .unseal2 .result ≡ plain (a .e) (a .m) (a .text .now) (a .m .second)
+second-plain c =
+    let f = c .before .before .before .before .before .before .before in
+    let a = f .before .before .before .before .before .before .before .before .args in
+    let key = f .before .before .before .working .ensures
+    ∙ ap (λ (t : Top). working t (a .m .ctp)) (f .before .before .before .before .top-of .ensures) in
+    c .unseal2 .ensures ∙ ap (λ (t : Top). unseal t (a .m .second .kd .key)) key
+
+second-uneven : (c : tie.After-uneven2)
+    → let f = c .before .before .before .before .before .before .before .before in
+    let a = f .before .before .before .before .before .before .before .before .args in
+    uneven-key (a .e) (a .m) (a .text .now) (a .m .second) ≡ c .uneven2 .result
+second-uneven c =
+    let f = c .before .before .before .before .before .before .before .before in
+    let a = f .before .before .before .before .before .before .before .before .args in
+    sym (c .uneven2 .ensures ∙ ap (λ (k : ℕ). a .m .second .kd .p && not (odd k)) (second-plain (c .before)))
 
 any-foreign-requires : tie.Need-any-foreign-requires
 any-foreign-requires c κs = search needs
@@ -15,8 +65,7 @@ any-foreign-requires c κs = search needs
 returns : tie.Need-returns
 returns c =
     let a = c .before .before .before .args in
-    let o : any-foreign (a .e) (ksm-in (a .m) (a .text .now)) ≡ true = cc in
-    opened-foreign (a .e) (ksm-in (a .m) (a .text .now)) o
+    opened-foreign (a .e) (ksm-in (a .m) (a .text .now)) (sym (c .before .any-foreign .ensures) ∙ c .if1 .taken)
 
 top-of-requires : tie.Need-top-of-requires
 top-of-requires c κs = search needs
@@ -32,17 +81,18 @@ uneven-requires c κs = search needs
 
 returns-2 : tie.Need-returns-2
 returns-2 c =
-    let a = c .before .before .before .before .before .before .before .before .before .before .args in
-    let o : any-foreign (a .e) (ksm-in (a .m) (a .text .now)) ≡ false = cc in
-    let u : uneven-key (a .e) (a .m) (a .text .now) (a .m .first) ≡ true = cc in
-    open-first (a .e) (a .m) (a .text .now) o u
+    let own = c .before .before .before .before .before .before .before in
+    let a = own .before .before .before .args in
+    open-first (a .e) (a .m) (a .text .now) (ours own) (first-uneven (c .before) ∙ c .if2 .taken)
 
 returns-3 : tie.Need-returns-3
 returns-3 c =
-    let a = c .before .before .before .before .before .before .before .before .before .before .before .before .args in
-    let o : any-foreign (a .e) (ksm-in (a .m) (a .text .now)) ≡ false = cc in
-    let u : uneven-key (a .e) (a .m) (a .text .now) (a .m .first) ≡ false = cc in
-    cc (open-one (a .e) (a .m) (a .text .now) o u (not-true _ (c .if3 .taken)))
+    let even = c .before .before in
+    let own = even .before .before .before .before .before .before .before in
+    let a = own .before .before .before .args in
+    ap (λ (k : ℕ). Keys k 0) (first-plain (even .before .before))
+    ∙ open-one (a .e) (a .m) (a .text .now) (ours own) (first-uneven (even .before) ∙ even .if2 .left)
+    (not-true _ (c .if3 .taken))
 
 unseal-requires-2 : tie.Need-unseal-requires-2
 unseal-requires-2 c κs = search needs
@@ -52,19 +102,22 @@ uneven-requires-2 c κs = search needs
 
 returns-4 : tie.Need-returns-4
 returns-4 c =
-    let a = c .before .before .before .before .before .before .before .before .before .before .before .before .before .before .before .before .before .args in
-    let o : any-foreign (a .e) (ksm-in (a .m) (a .text .now)) ≡ false = cc in
-    let u : uneven-key (a .e) (a .m) (a .text .now) (a .m .first) ≡ false = cc in
-    let v : uneven-key (a .e) (a .m) (a .text .now) (a .m .second) ≡ true = cc in
-    open-second (a .e) (a .m) (a .text .now) o u (not-false _ (c .before .before .before .before .before .if3 .left)) v
+    let two = c .before .before .before .before .before in
+    let even = two .before .before in
+    let own = even .before .before .before .before .before .before .before in
+    let a = own .before .before .before .args in
+    open-second (a .e) (a .m) (a .text .now) (ours own) (first-uneven (even .before) ∙ even .if2 .left)
+    (not-false _ (two .if3 .left)) (second-uneven (c .before) ∙ c .if4 .taken)
 
 returns-5 : tie.Need-returns-5
 returns-5 c =
-    let a = c .before .before .before .before .before .before .before .before .before .before .before .before .before .before .before .before .before .args in
-    let o : any-foreign (a .e) (ksm-in (a .m) (a .text .now)) ≡ false = cc in
-    let u : uneven-key (a .e) (a .m) (a .text .now) (a .m .first) ≡ false = cc in
-    let v : uneven-key (a .e) (a .m) (a .text .now) (a .m .second) ≡ false = cc in
-    cc (open-two (a .e) (a .m) (a .text .now) o u (not-false _ (c .before .before .before .before .before .if3 .left)) v)
+    let two = c .before .before .before .before .before in
+    let even = two .before .before in
+    let own = even .before .before .before .before .before .before .before in
+    let a = own .before .before .before .args in
+    (λ i. Keys (first-plain (even .before .before) i) (second-plain (c .before .before) i))
+    ∙ open-two (a .e) (a .m) (a .text .now) (ours own) (first-uneven (even .before) ∙ even .if2 .left)
+    (not-false _ (two .if3 .left)) (second-uneven (c .before) ∙ c .if4 .left)
 
 pub open-keys-spec : {M : Type 1} → statement M
 open-keys-spec =

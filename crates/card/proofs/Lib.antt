@@ -1,0 +1,9 @@
+pub mod Steps
+pub mod Fitting
+pub mod Turning
+pub mod Calling
+pub mod Showing
+pub mod Loading
+pub mod Staying
+pub mod Claims
+pub mod Determined

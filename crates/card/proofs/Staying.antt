@@ -1,0 +1,190 @@
+-- What a call leaves in a legal table: entries whose fields fit their types, and an image of the same length.
+use mathlib.Core.Path.{_≡_, refl, ap, _∙_, subst}
+use mathlib.Core.Bool.{Bool, true, false, cond}
+use mathlib.Core.List.{List, [], _∷_}
+use mathlib.Core.Option.{Option, none, some}
+use Prim.Native.Nat.{ℕ}
+use lib.ListN.{length}
+use borrow.Author.Tests.{not-false}
+use Rattle.octets.specs.Text.{Text, same, is-name}
+use Rattle.octets.specs.Part.{bare, all-octets}
+use Rattle.octets.proofs.Comparing.{both}
+use Rattle.csm.specs.Message.{Reading, read}
+use Rattle.csm.proofs.TextLaws.{none-some, some-inj}
+use Rattle.keying.specs.declared.Top.{Top}
+use Rattle.partner.specs.declared.Name.{Name}
+use Rattle.partner.specs.declared.Entry.{Entry}
+use Rattle.partner.specs.Entry.{filled, name-of}
+use Rattle.partner.specs.Changes.{loaded}
+use Rattle.partner.specs.Held.{Held}
+use Rattle.partner.specs.Legal as partner
+use Rattle.partner.proofs.Holding.{held-name-of, held-loaded}
+use Rattle.image.specs.Table.{Table, AllHeld, legal, is-empty, find, put, place, behind, holding}
+use Rattle.image.specs.Image.{decode, encode}
+use Rattle.image.specs.Places.{entry-at, entry-there, with-entry}
+use Rattle.image.proofs.Entries.{empty-held}
+use Rattle.image.proofs.Updates.{entry-at-held}
+use Rattle.image.proofs.Claims.{claims}
+use Rattle.calls.specs.Outcome.{Turn}
+use Rattle.calls.specs.Calls.{Call, receive, build-ksm, build-rsi, give-up, load, remove, ask, After}
+use Rattle.calls.specs.Calls.{entry-of, turned, at-partner, receiving, placed, loading, emptied, told}
+use Rattle.calls.specs.Calls.{perform, run}
+use Rattle.calls.proofs.Tests.{by-case}
+use Rattle.calls.proofs.Tables.{own-name, entry-held, held-legal}
+use Rattle.card.specs.Claims.{Of-64-bits, In-place}
+use Rattle.card.specs.Ways.{record-of}
+use Rattle.card.proofs.Steps.{record-place}
+use Rattle.card.proofs.Fitting.{name-octets, Keeps, receive-keeps, build-ksm-keeps, build-rsi-keeps}
+use Rattle.card.proofs.Fitting.{give-up-keeps}
+use Rattle.card.proofs.Turning.{lawful-table, encode-is, entry-is}
+
+-- ---- rows
+
+find-held : (id : Text) (slots : List Entry) (e : Entry) → AllHeld slots → find id slots ≡ some e → Held e
+find-held id [] e h q = absurd (none-some _ q)
+find-held id (f ∷ slots) e (k, h) q = go (same (f .identity .bytes) id) (λ r. find-held id slots e h r) q
+  where
+    go : (b : Bool) → (find id slots ≡ some e → Held e) → cond b (some f) (find id slots) ≡ some e → Held e
+    go true r q = subst Held (some-inj q) k
+    go false r q = r q
+
+put-held : (id : Text) (x : Entry) (slots : List Entry) → Held x → AllHeld slots → AllHeld (put id x slots)
+put-held id x [] k h = h
+put-held id x (e ∷ slots) k (j, h) = go (same (e .identity .bytes) id) (put-held id x slots k h)
+  where
+    go : (b : Bool) → AllHeld (put id x slots) → AllHeld (cond b (x ∷ slots) (e ∷ put id x slots))
+    go true r = (k, h)
+    go false r = (j, r)
+
+place-held : (x : Entry) (slots m : List Entry) → Held x → AllHeld slots → place x slots ≡ some m → AllHeld m
+place-held x [] m k h q = absurd (none-some _ q)
+place-held x (e ∷ slots) m k (j, h) q =
+    go (is-empty e) (place x slots) (λ n r. place-held x slots n k h r) q
+  where
+    go : (b : Bool) (o : Option (List Entry)) → ((n : List Entry) → o ≡ some n → AllHeld n)
+        → cond b (some (x ∷ slots)) (behind e o) ≡ some m → AllHeld m
+    go true o r q = subst AllHeld (some-inj q) (k, h)
+    go false none r q = absurd (none-some _ q)
+    go false (some n) r q = subst AllHeld (some-inj q) (j, r n refl)
+
+-- ---- tables
+
+abbrev Holds : After → Type 0
+Holds a = AllHeld (a .table .slots)
+
+module _ (t : Table) (lawful : legal t ≡ true) (all : AllHeld (t .slots)) where
+  partner-holds : (id : Text) (turn : Entry → Turn)
+      → ((e : Entry) → partner.legal e ≡ true → Held e → Held (turn e .entry)) → Holds (at-partner t id turn)
+  unfolding at-partner
+  partner-holds id turn keeps = go (entry-of id t) refl
+    where
+      go : (o : Option Entry) → entry-of id t ≡ o → Holds (turned t id turn o)
+      go none q = all
+      go (some e) q =
+          let k = entry-held t id e q in
+          put-held (filled id) (turn e .entry) (t .slots)
+          (keeps e (held-legal t id e lawful k) (find-held (filled id) (t .slots) e all (k .found))) all
+
+  receive-holds : (text : Text) (o : Option Reading) → read text ≡ o → Holds (receiving t text o)
+  unfolding receiving
+  receive-holds text none q = all
+  receive-holds text (some r) q =
+      by-case Holds _ _ _ (λ _. all) λ _.
+      partner-holds (r .org) _ (λ e l k. receive-keeps (bare (t .own)) (own-name t lawful) e l k text r q .held)
+
+  load-holds : (id name : Text) (top : Top) → Of-64-bits (load id name top) → Holds (loading t id name top)
+  unfolding loading
+  load-holds id name top f =
+      by-case Holds _ _ _ (λ _. all) λ i. by-case Holds _ _ _ (λ _. all) λ n. by-case Holds _ _ _ (λ _. all) λ _.
+      go (both (is-name id) _ (not-false _ i) .0) (not-false _ n)
+      (place (loaded (name-of id) (name-of name) top) (t .slots)) refl
+    where
+      go : is-name id ≡ true → is-name name ≡ true → (o : Option (List Entry))
+          → place (loaded (name-of id) (name-of name) top) (t .slots) ≡ o → Holds (placed t o)
+      go i n none q = all
+      go i n (some m) q =
+          place-held (loaded (name-of id) (name-of name) top) (t .slots) m
+          (held-loaded (name-of id) (name-of name) top (held-name-of id (name-octets id i))
+          (held-name-of name (name-octets name n)) (f .0) (f .1)) all q
+
+  perform-holds : (c : Call) → Of-64-bits c → Holds (perform t c)
+  unfolding perform
+  perform-holds (receive room text) f = by-case Holds _ _ _ (λ _. all) (λ _. receive-holds text (read text) refl)
+  perform-holds (build-ksm room id q) f =
+      by-case Holds _ _ _ (λ _. all) λ _.
+      partner-holds id _ (λ e l k. build-ksm-keeps (bare (t .own)) (own-name t lawful) e l k q f .held)
+  perform-holds (build-rsi room id contents) f =
+      by-case Holds _ _ _ (λ _. all) λ _.
+      partner-holds id _ (λ e l k. build-rsi-keeps (bare (t .own)) (own-name t lawful) e l k contents .held)
+  perform-holds (give-up id) f =
+      partner-holds id _ (λ e l k. give-up-keeps (bare (t .own)) (own-name t lawful) e l k .held)
+  perform-holds (load id name top) f = load-holds id name top f
+  perform-holds (remove id) f = partner-holds id emptied (λ e l k. empty-held)
+  perform-holds (ask id) f = partner-holds id told (λ e l k. k)
+
+  -- every entry of the table after a call fits its types
+  pub run-holds : (c : Call) → Of-64-bits c → Holds (run t c)
+  unfolding run
+  run-holds c f = by-case Holds _ _ _ (λ _. perform-holds c f) (λ _. all)
+
+-- ---- lengths
+
+module _ (image : Text) (t : Table) (d : decode image ≡ some t) (octets : all-octets image ≡ true) where
+  abbrev As-long : After → Type 0
+  As-long a = length (encode (a .table)) ≡ length image
+
+  unchanged : length (encode t) ≡ length image
+  unchanged = ap length (encode-is image t d)
+
+  partner-long : (id : Text) (turn : Entry → Turn)
+      → ((e : Entry) → partner.legal e ≡ true → Held e → Keeps e (turn e .entry)) → As-long (at-partner t id turn)
+  unfolding at-partner
+  partner-long id turn keeps = go (record-of id image) refl
+    where
+      there : (o : Option ℕ) → record-of id image ≡ o → entry-of id t ≡ entry-there image o
+      there o p = entry-is image t d id ∙ ap (entry-there image) p
+
+      go : (o : Option ℕ) → record-of id image ≡ o → As-long (turned t id turn (entry-of id t))
+      go none p =
+          ap (λ (e : Option Entry). length (encode (turned t id turn e .table))) (there none p) ∙ unchanged
+      go (some at) p =
+          let e = entry-at at image in
+          let k = entry-held t id e (there (some at) p) in
+          let f = keeps e (held-legal t id e (lawful-table image t d) k) (entry-at-held at image octets) in
+          let i = ap (λ (n : Name). n .bytes) (f .identity) ∙ k .identity in
+          let b =
+          claims .entry-put-back image t (filled id) at (turn e .entry) d (record-place id image at p) (f .lawful)
+          (f .held) i in
+          let u = holding t (put (filled id) (turn e .entry) (t .slots)) in
+          ap (λ (e : Option Entry). length (encode (turned t id turn e .table))) (there (some at) p)
+          ∙ ap length (claims .read-then-write (with-entry at (turn e .entry) image) u (b .0) .1) ∙ b .1
+
+  own : is-name (bare (t .own)) ≡ true
+  own = own-name t (lawful-table image t d)
+
+  receive-long : (text : Text) (o : Option Reading) → read text ≡ o → As-long (receiving t text o)
+  unfolding receiving
+  receive-long text none q = unchanged
+  receive-long text (some r) q =
+      by-case As-long _ _ _ (λ _. unchanged) λ _.
+      partner-long (r .org) _ (λ e l k. receive-keeps (bare (t .own)) own e l k text r q)
+
+  perform-long : (c : Call) → Of-64-bits c → In-place c → As-long (perform t c)
+  unfolding perform
+  perform-long (receive room text) f p =
+      by-case As-long _ _ _ (λ _. unchanged) (λ _. receive-long text (read text) refl)
+  perform-long (build-ksm room id q) f p =
+      by-case As-long _ _ _ (λ _. unchanged) λ _.
+      partner-long id _ (λ e l k. build-ksm-keeps (bare (t .own)) own e l k q f)
+  perform-long (build-rsi room id contents) f p =
+      by-case As-long _ _ _ (λ _. unchanged) λ _.
+      partner-long id _ (λ e l k. build-rsi-keeps (bare (t .own)) own e l k contents)
+  perform-long (give-up id) f p = partner-long id _ (λ e l k. give-up-keeps (bare (t .own)) own e l k)
+  perform-long (load id name top) f p = absurd p
+  perform-long (remove id) f p = absurd p
+  perform-long (ask id) f p = partner-long id told (λ e l k. record { lawful = l; held = k; identity = refl })
+
+  -- the image of the table after a call in place is as long as it was
+  pub run-long : (c : Call) → Of-64-bits c → In-place c → As-long (run t c)
+  unfolding run
+  run-long c f p = by-case As-long _ _ _ (λ _. perform-long c f p) (λ _. unchanged)

@@ -1,0 +1,78 @@
+-- What is claimed of every call over the stored image; proved as `claims` in proofs/Claims.antt.
+use mathlib.Core.Path.{_≡_}
+use mathlib.Core.Bool.{true}
+use mathlib.Core.Option.{some}
+use Prim.Native.Nat.{ℕ, _^_, _<_, _≤_}
+use lib.ListN.{length}
+use Rattle.octets.specs.Text.{Text}
+use Rattle.octets.specs.Part.{all-octets}
+use Rattle.partner.specs.Changes.{left-of, right-of}
+use Rattle.image.specs.Table.{Table}
+use Rattle.image.specs.Image.{decode, found}
+use Rattle.calls.specs.Outcome.{Outcome, refusal}
+use Rattle.calls.specs.Calls.{Call, receive, build-ksm, build-rsi, give-up, load, remove, ask, run}
+use Rattle.calls.specs.Claims.{Sized}
+use Rattle.outcome.specs.Report.{replied}
+use Rattle.card.specs.Over.{outcome-over, image-over}
+use Rattle.card.specs.Whole.{ask-over, start-over, load-over, remove-over}
+
+-- keys and IV are of 64 bits; in bytes they are
+abbrev pub Of-64-bits : Call → Type 0
+Of-64-bits (receive room text) = Unit {0}
+Of-64-bits (build-ksm room id q) = Sized q
+Of-64-bits (build-rsi room id contents) = Unit {0}
+Of-64-bits (give-up id) = Unit {0}
+Of-64-bits (load id name top) = (left-of top < 2 ^ 64) × (right-of top < 2 ^ 64)
+Of-64-bits (remove id) = Unit {0}
+Of-64-bits (ask id) = Unit {0}
+
+-- the calls but load and remove, which add a record or take one out
+abbrev pub In-place : Call → Type 0
+In-place (receive room text) = Unit {0}
+In-place (build-ksm room id q) = Unit {0}
+In-place (build-rsi room id contents) = Unit {0}
+In-place (give-up id) = Unit {0}
+In-place (load id name top) = ⊥
+In-place (remove id) = ⊥
+In-place (ask id) = Unit {0}
+
+-- unless it is done, a bare refusal with one of the paper's numbers
+pub record Done-or-refused (o : Outcome) : Type 0 where
+  pub answer : o .answer ≤ 13
+  pub bare : (o .answer ≡ 0 → ⊥) → o ≡ refusal (o .answer)
+
+-- with 0, what was written is a legal image
+abbrev pub New-image : Outcome → Type 0
+New-image o = o .answer ≡ 0 → found (decode (o .reply)) ≡ true
+
+pub record Claims : Type 0 where
+  -- the answers are the paper's
+  pub answers-are-the-papers : (image : Text) (c : Call) → outcome-over image c .answer ≤ 13
+  -- a refusal and an error leave every byte of the image as it was
+  pub unless-done-nothing-changes : (image : Text) (c : Call)
+      → (outcome-over image c .answer ≡ 0 → ⊥) → image-over image c ≡ image
+  -- with a refusal every other part of the result is zero or empty, and no byte of the buffer differs
+  pub refusals-are-bare : (image : Text) (c : Call)
+      → (outcome-over image c .answer ≡ 0 → ⊥) → (outcome-over image c .answer ≡ 4 → ⊥)
+      → outcome-over image c ≡ refusal (outcome-over image c .answer)
+  pub refusals-write-nothing : (image : Text) (c : Call) (buffer : Text)
+      → (outcome-over image c .answer ≡ 0 → ⊥) → (outcome-over image c .answer ≡ 4 → ⊥)
+      → replied (outcome-over image c) buffer ≡ buffer
+  -- a legal image stays legal: it is that of the table after the call
+  pub stays-legal : (image : Text) (t : Table) (c : Call) → all-octets image ≡ true → Of-64-bits c
+      → decode image ≡ some t → decode (image-over image c) ≡ some (run t c .table)
+  -- receive, build, give up and ask keep its length
+  pub length-stays : (image : Text) (c : Call) → all-octets image ≡ true → Of-64-bits c → In-place c
+      → length (image-over image c) ≡ length image
+  -- ask, start, load and remove as they write to a buffer
+  pub ask-answers : (image : Text) (room : ℕ) (id : Text) → Done-or-refused (ask-over image room id)
+  pub start-answers : (own : Text) (room : ℕ) → Done-or-refused (start-over own room)
+  pub load-answers : (image : Text) (room : ℕ) (id name key : Text)
+      → Done-or-refused (load-over image room id name key)
+  pub remove-answers : (image : Text) (room : ℕ) (id : Text) → Done-or-refused (remove-over image room id)
+  -- each new image is legal
+  pub started-image : (own : Text) (room : ℕ) → New-image (start-over own room)
+  pub loaded-image : (image : Text) (room : ℕ) (id name key : Text) → all-octets image ≡ true
+      → all-octets key ≡ true → New-image (load-over image room id name key)
+  pub removed-image : (image : Text) (room : ℕ) (id : Text) → all-octets image ≡ true
+      → New-image (remove-over image room id)

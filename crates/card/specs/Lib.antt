@@ -1,0 +1,4 @@
+pub mod Over
+pub mod Whole
+pub mod Ways
+pub mod Claims

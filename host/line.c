@@ -1,0 +1,93 @@
+/* The line program: what a host runs beside the payment line. `line --help` is its manual. */
+#define _POSIX_C_SOURCE 200809L
+#include <signal.h>
+#include <stdio.h>
+#include <string.h>
+
+#include "commands.h"
+#include "say.h"
+
+static const char help[] =
+    "usage: line COMMAND IMAGE [WORD..]\n"
+    "\n"
+    "IMAGE is the file that keeps the card's partner table; it is exactly the stored image and holds keys in the\n"
+    "clear. A change is written to IMAGE.new, forced to the disk and renamed, so a cut leaves the old image or the\n"
+    "new one. Several commands may be at one image at once: each waits for its turn.\n"
+    "\n"
+    "Custodians\n"
+    "  start IMAGE OWN            a new card with the identity OWN and no partners; IMAGE must not be there yet\n"
+    "  load IMAGE PARTNER NAME    a partner with the key name NAME and a top key from two custodians: their\n"
+    "                             components on standard input, one to a line, both of 16 hex digits (a single\n"
+    "                             key) or both of 32 (a pair). Each is of odd parity; their exclusive-or, made odd,\n"
+    "                             is the key. Nothing that is typed at a terminal is shown. The check value that is\n"
+    "                             printed is to be the same at both ends\n"
+    "  load IMAGE PARTNER NAME --key HEX\n"
+    "                             the same with the whole key, for tests: see below on keys\n"
+    "  remove IMAGE PARTNER       takes a partner out, with its keys and counts\n"
+    "  list IMAGE                 the partners: key name, form, phase, counts, number of data keys and their names\n"
+    "\n"
+    "The desk\n"
+    "  ksm IMAGE PARTNER --key HEX [OF THE KEY] [--key HEX [OF THE KEY]] [--iv HEX | --iv-enciphered HEX] [--date D]\n"
+    "                             builds a key message and prints it. Keep it: a resend is the same bytes again.\n"
+    "                             HEX is 16 hex digits, or - for the next line of standard input. Of the key before:\n"
+    "                               --p          marked P: it has to be of odd parity\n"
+    "                               --idk1 NAME  its name is written\n"
+    "                               --idk2       the name of the top key is written\n"
+    "                             The IV is given in the clear and goes plain or enciphered; D is YYMMDDHHMMSS\n"
+    "  rsi IMAGE PARTNER [SVR]    builds a request for service and prints it. SVR is KK or *KK, KD, IV, in this\n"
+    "                             order and joined by dots, or left out: one data key is always meant\n"
+    "  give-up IMAGE PARTNER      gives up on the key message that waits for its answer\n"
+    "  ask IMAGE PARTNER          one partner's entry, with the check values of its data keys\n"
+    "\n"
+    "The line\n"
+    "  run IMAGE                  receives messages on standard input, one to a line, and prints the replies on\n"
+    "                             standard output, each once the image is kept. Standard error has for each line\n"
+    "                             its number, the card's answer, and what the message told: the service wanted,\n"
+    "                             the IV in the clear and the date, or the letters of an error\n"
+    "\n"
+    "Keys. No command prints a key; a check value is the first three bytes of the zero block enciphered under it.\n"
+    "A key on the command line is seen by every user of the machine and stays in the shell's history: use - and\n"
+    "standard input. An ESM carries no MAC: whoever can write to the line can break a waiting exchange, and spend\n"
+    "the send count with a CTP of 99999999.\n"
+    "\n"
+    "Exit status: 0 done; 1 the card refused, or trouble with a file, with nothing changed unless the message says\n"
+    "so; 2 the command was not understood. `run` ends with 0 also where the card refused a message.\n";
+
+static const struct command {
+    const char *name;
+    int (*act)(int count, char **words);
+    int least, most; /* words behind the name */
+} commands[] = {
+    {"start", do_start, 2, 2},     {"load", do_load, 3, 5}, {"remove", do_remove, 2, 2},
+    {"list", do_list, 1, 1},       {"ksm", do_ksm, 2, 64},  {"rsi", do_rsi, 2, 3},
+    {"give-up", do_give_up, 2, 2}, {"ask", do_ask, 2, 2},   {"run", do_run, 1, 1},
+};
+
+static const struct command *find_command(const char *name) {
+    for (size_t i = 0; i < sizeof commands / sizeof *commands; i++)
+        if (strcmp(commands[i].name, name) == 0)
+            return &commands[i];
+    return NULL;
+}
+
+int main(int argc, char **argv) {
+    /* a reader that has gone is an error of writing, and said so */
+    signal(SIGPIPE, SIG_IGN);
+    if (argc < 2)
+        return complain(MISUSED, "no command; line --help tells all");
+    int status = DONE;
+    if (strcmp(argv[1], "--help") == 0) {
+        fputs(help, stdout);
+    } else {
+        const struct command *command = find_command(argv[1]);
+        if (command == NULL)
+            return complain(MISUSED, "%s: no such command; line --help tells all", argv[1]);
+        if (argc - 2 < command->least || argc - 2 > command->most)
+            return complain(MISUSED, "%s: too %s words; line --help tells all", argv[1],
+                            argc - 2 < command->least ? "few" : "many");
+        status = command->act(argc - 2, argv + 2);
+    }
+    if (fflush(stdout) != 0 || ferror(stdout))
+        return status == DONE ? complain(FAILED, "cannot write standard output") : status;
+    return status;
+}

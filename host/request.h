@@ -1,0 +1,10 @@
+/* The request for a KSM from the words of a command. */
+#ifndef HOST_REQUEST_H
+#define HOST_REQUEST_H
+
+#include <stdint.h>
+
+/* Makes the 73 bytes of a request; gives DONE, or complains and gives MISUSED. */
+int read_request(uint8_t *request, int count, char **words);
+
+#endif
