@@ -34,7 +34,7 @@ use Rattle.outcome.specs.declared.Asked.{Asked}
 use Rattle.outcome.specs.declared.Act.the-variants.{Receive, BuildKsm, BuildRsi, GiveUp}
 use Rattle.outcome.specs.Acts.{sound, guarded, receive-read, act}
 use Rattle.outcome.specs.Acts as acts
-use Rattle.card.specs.Ways.{record-of, plain, turn-of, outcome-at, image-at}
+use Rattle.card.specs.Ways.{record-of, plain, turn-at, outcome-at, image-at}
 use Rattle.card.proofs.Steps.{record-place}
 use Rattle.card.proofs.Fitting.{Keeps}
 
@@ -105,7 +105,7 @@ module _ (image : Text) (t : Table) (d : decode image ≡ some t) where
   module _ (id : Text) (a : Asked) (room : ℕ) (text : Text) (turn : Entry → Turn)
       (same-turn : (e : Entry) → partner.legal e ≡ true → act a (bare (t .own)) e room text ≡ turn e) where
     turn-is : (at : ℕ) → record-of id image ≡ some at
-        → turn-of a image (entry-at at image) room text ≡ turn (entry-at at image)
+        → turn-at a image at room text ≡ turn (entry-at at image)
     turn-is at p =
         let e = entry-at at image in
         let k = entry-held t id e (entry-is id ∙ ap (entry-there image) p) in

@@ -66,19 +66,19 @@ no-request = record {
 abbrev pub plain : Act → Asked
 plain a = record { act = a; request = no-request }
 
--- what is made of an entry
-abbrev pub turn-of : Asked → Text → Entry → ℕ → Text → Turn
-turn-of a image e room text = act a (bare (own-in image)) e room text
+-- what is made of the entry at a place
+abbrev pub turn-at : Asked → Text → ℕ → ℕ → Text → Turn
+turn-at a image at room text = act a (bare (own-in image)) (entry-at at image) room text
 
 -- 3, or the outcome of the turn of the entry at a place
 unfoldable pub outcome-at : Asked → Text → ℕ → Text → Option ℕ → Outcome
 outcome-at a image room text none = refusal 3
-outcome-at a image room text (some at) = turn-of a image (entry-at at image) room text .outcome
+outcome-at a image room text (some at) = turn-at a image at room text .outcome
 
 -- the image with the entry put back
 unfoldable pub image-at : Asked → Text → ℕ → Text → Option ℕ → Text
 image-at a image room text none = image
-image-at a image room text (some at) = put-back at (turn-of a image (entry-at at image) room text .entry) image
+image-at a image room text (some at) = put-back at (turn-at a image at room text .entry) image
 
 -- ---- results
 

@@ -89,8 +89,7 @@ pub fn build_rsi(image: &[u8], partner: &[u8], contents: &[u8], reply: &mut [u8]
     let Place::At(at) = way::find(image, partner) else {
         return outcome::refusal(3);
     };
-    let entry = image::entry_at(image, at);
-    let turned = way::turn_of(image, entry, way::plain(Act::BuildRsi), contents, reply);
+    let turned = way::turn_at(image, at, way::plain(Act::BuildRsi), contents, reply);
     turned.report
 }
 

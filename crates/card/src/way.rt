@@ -15,7 +15,6 @@ use outcome::Act;
 use outcome::Asked;
 use outcome::Report;
 use outcome::Turned;
-use partner::Entry;
 use partner::Name;
 use reader::Head;
 use reader::Message;
@@ -126,14 +125,15 @@ pub fn plain(act: Act) -> Asked
     }
 }
 
-// What is made of an entry, and its reply.
-pub fn turn_of(image: &[u8], e: Entry, a: Asked, text: &[u8], reply: &mut [u8]) -> Turned
-    ensures { λ r. ⌜ r ≡ report.turned (ways.turn-of a (now (image .entry)) e (length (now (reply .entry)))
+// What is made of the entry at a place, and its reply.
+pub fn turn_at(image: &[u8], at: usize, a: Asked, text: &[u8], reply: &mut [u8]) -> Turned
+    ensures { λ r. ⌜ r ≡ report.turned (ways.turn-at a (now (image .entry)) at (length (now (reply .entry)))
         (now (text .entry))) ⌝ }
-    ensures { λ r. ⌜ now (reply .exit) ≡ report.replied (ways.turn-of a (now (image .entry)) e
+    ensures { λ r. ⌜ now (reply .exit) ≡ report.replied (ways.turn-at a (now (image .entry)) at
         (length (now (reply .entry))) (now (text .entry)) .outcome) (now (reply .entry)) ⌝ }
 {
-    turn::turn(octets::bare(image::own_identity(image)), e, a, text, reply)
+    let own = octets::bare(image::own_identity(image));
+    turn::turn(own, image::entry_at(image, at), a, text, reply)
 }
 
 // One partner's entry is found, turned and put back; 3 where there is none.
@@ -155,8 +155,7 @@ pub fn at_partner(
     let Place::At(at) = find(image, partner) else {
         return outcome::refusal(3);
     };
-    let entry = image::entry_at(image, at);
-    let turned = turn_of(image, entry, a, text, reply);
+    let turned = turn_at(image, at, a, text, reply);
     image::put_at(image, at, turned.entry);
     turned.report
 }

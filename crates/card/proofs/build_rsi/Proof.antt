@@ -13,7 +13,7 @@ use Rattle.calls.specs.Calls.{build-rsi}
 use Rattle.outcome.specs.declared.Asked.{Asked}
 use Rattle.outcome.specs.declared.Turned.{Turned}
 use Rattle.outcome.specs.declared.Act.the-variants.{BuildRsi}
-use Rattle.card.specs.Ways.{record-of, plain, turn-of, outcome-at}
+use Rattle.card.specs.Ways.{record-of, plain, turn-at, outcome-at}
 use Rattle.card.proofs.Steps.{holds, fails}
 use Rattle.card.proofs.Calling.{refused-report, refused-reply, no-image, build-rsi-short, build-rsi-at}
 use borrow.Author.Needs.{needs}
@@ -82,14 +82,11 @@ returns-3 c =
     ∙ build-rsi-at im there id room (at-find .before .if2 .left) contents in
     (refused-report _ 3 _ (sym so) (c .refusal3 .ensures), refused-reply _ 3 reply (sym so))
 
-entry-at-requires : tie.Need-entry-at-requires
-entry-at-requires c κs = search needs
-
 plain-requires : tie.Need-plain-requires
 plain-requires c κs = search needs
 
-turn-of-requires : tie.Need-turn-of-requires
-turn-of-requires c κs = search needs
+turn-at-requires : tie.Need-turn-at-requires
+turn-at-requires c κs = search needs
 
 same-length : tie.Need-same-length
 same-length c = search needs
@@ -97,9 +94,9 @@ same-length c = search needs
 returns-4 : tie.Need-returns-4
 unfolding outcome-at turned
 returns-4 c =
-    let at-turn-of = c .before .before .before in
-    let at-entry-at = at-turn-of .before .before .before in
-    let at-find = at-entry-at .before .before .before .before in
+    let at-turn-at = c .before .before .before in
+    let at-at = at-turn-at .before .before .before .before in
+    let at-find = at-at .before .before in
     let at-legal = at-find .before .before .before in
     let start = at-legal .before .before .before .before .before in
     let a = start .args in
@@ -109,14 +106,12 @@ returns-4 c =
     let id : Text = a .partner .now in
     let room : ℕ = length reply in
     let contents : Text = a .contents .now in
-    let at = at-entry-at .before .before .at .given in
+    let at = at-at .at .given in
     let p = was-at (record-of id im) (at .0 .0) (sym (at-find .find .ensures) ∙ at .1) in
-    let turn = at-turn-of .turn-of in
-    let entry = at-entry-at .entry-at in
-    let asked = at-turn-of .before .before .plain in
+    let turn = at-turn-at .turn-at in
+    let asked = at-turn-at .before .before .plain in
     let so =
-    ap (λ (x : Asked). turn-of x im (entry .result) room contents .outcome) (asked .ensures)
-    ∙ ap (λ (e : Entry). turn-of (plain BuildRsi) im e room contents .outcome) (entry .ensures)
+    ap (λ (x : Asked). turn-at x im (at .0 .0) room contents .outcome) (asked .ensures)
     ∙ ap (outcome-at (plain BuildRsi) im room contents) (sym p)
     ∙ build-rsi-at im there id room (at-find .before .if2 .left) contents in (
       ap (λ (r : Turned). r .report) (turn .ensures .0) ∙ ap report so,
@@ -137,8 +132,7 @@ build-rsi-spec =
     enum-told
     refusal-requires-3
     returns-3
-    entry-at-requires
     plain-requires
-    turn-of-requires
+    turn-at-requires
     same-length
     returns-4)

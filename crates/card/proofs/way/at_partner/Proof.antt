@@ -3,13 +3,12 @@ use mathlib.Core.Path.{_≡_, sym, ap, _∙_}
 use lib.ListN.{length}
 use Rattle.octets.specs.Text.{Text}
 use Rattle.partner.specs.declared.Entry.{Entry}
-use Rattle.image.specs.Places.{entry-at}
 use Rattle.image.specs.Results.{put-back}
 use Rattle.image.proofs.Steps.{was-nothing, was-at}
 use Rattle.calls.specs.Outcome.{Outcome}
 use Rattle.outcome.specs.declared.Turned.{Turned}
 use Rattle.outcome.specs.Report.{report, turned, replied}
-use Rattle.card.specs.Ways.{record-of, turn-of, outcome-at, image-at}
+use Rattle.card.specs.Ways.{record-of, turn-at, outcome-at, image-at}
 use Rattle.card.proofs.Calling.{refused-report, refused-reply}
 use borrow.Author.Needs.{needs}
 use Rattle.card.proofs.way.at_partner.Statement.{statement}
@@ -46,11 +45,8 @@ returns c =
       (ap (image-at (a .a) im (length reply) text) (sym p), refused-reply _ 3 reply q),
     )
 
-entry-at-requires : tie.Need-entry-at-requires
-entry-at-requires c κs = search needs
-
-turn-of-requires : tie.Need-turn-of-requires
-turn-of-requires c κs = search needs
+turn-at-requires : tie.Need-turn-at-requires
+turn-at-requires c κs = search needs
 
 put-at-requires : tie.Need-put-at-requires
 put-at-requires c κs = search needs
@@ -65,9 +61,8 @@ returns-2 : tie.Need-returns-2
 unfolding outcome-at image-at turned
 returns-2 c =
     let at-put-at = c .before .before .before in
-    let at-turn-of = at-put-at .before .before .before .before in
-    let at-entry-at = at-turn-of .before .before .before in
-    let at-at = at-entry-at .before .before .before in
+    let at-turn-at = at-put-at .before .before .before .before in
+    let at-at = at-turn-at .before .before .before .before in
     let start = at-at .before .before .before .before .before .before .before .before in
     let a = start .args in
     let im : Text = a .image .now in
@@ -75,14 +70,10 @@ returns-2 c =
     let reply : Text = a .reply .now in
     let at = at-at .at .given in
     let p = was-at (record-of (a .partner .now) im) (at .0 .0) (sym (at-at .before .before .find .ensures) ∙ at .1) in
-    let turn = at-turn-of .turn-of in
-    let read = at-entry-at .entry-at .ensures in
-    let so =
-    ap (λ (e : Entry). turn-of (a .a) im e (length reply) text .outcome) read
-    ∙ ap (outcome-at (a .a) im (length reply) text) (sym p) in
-    let new : turn .result .entry ≡ turn-of (a .a) im (entry-at (at .0 .0) im) (length reply) text .entry =
-    ap (λ (r : Turned). r .entry) (turn .ensures .0)
-    ∙ ap (λ (e : Entry). turn-of (a .a) im e (length reply) text .entry) read in (
+    let turn = at-turn-at .turn-at in
+    let so = ap (outcome-at (a .a) im (length reply) text) (sym p) in
+    let new : turn .result .entry ≡ turn-at (a .a) im (at .0 .0) (length reply) text .entry =
+    ap (λ (r : Turned). r .entry) (turn .ensures .0) in (
       ap (λ (r : Turned). r .report) (turn .ensures .0) ∙ ap report so,
       (
         at-put-at .put-at .ensures ∙ ap (λ (e : Entry). put-back (at .0 .0) e im) new
@@ -101,8 +92,7 @@ at-partner-spec =
     refusal-requires
     same-length
     returns
-    entry-at-requires
-    turn-of-requires
+    turn-at-requires
     put-at-requires
     same-length-2
     same-length-3
