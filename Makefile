@@ -1,24 +1,38 @@
 # The two commands are `make run` and `make test`; `make help` lists the others.
-.PHONY: help run test lister bench fmt vectors
+.PHONY: help run test line lister vectors fuzz badline cover bench fmt
 
 help:
-	@echo 'make run      build the product and run its main job (today: the line lister and the known answers)'
-	@echo 'make test     prove every crate, try every must-fail edit, run every test (some 25 minutes)'
+	@echo 'make run      build the card and its line program, and show two cards exchanging keys over a bad line'
+	@echo 'make test     prove every crate, try every must-fail edit, run every test (some half an hour)'
+	@echo 'make line     build the line program: target/host/line --help'
 	@echo 'make lister   list the messages on standard input, one to a line'
-	@echo 'make bench    speed of the cipher beside nettle and OpenSSL, as ratios (no part of the tests)'
+	@echo 'make fuzz     the card beside a second program on generated input, until stopped'
+	@echo 'make badline  two and three cards on a bad line, until stopped'
+	@echo 'make cover    coverage-guided fuzzing of the C face, until stopped'
+	@echo 'make bench    time, stack and size (no part of the tests)'
 	@echo 'make fmt      lay out every .rt and .antt file'
 	@echo 'make vectors  make the known answers anew with an independent library'
 
 run:
-	@rt check lister vectors
-	@echo '--- the line lister on its sample lines' && target/bin/lister < crates/lister/stdin
-	@echo '--- known answers, the last ones' && target/bin/vectors < crates/vectors/stdin | tail -n 8
+	@bash host/build && target/host/chart
 
 test:
 	@bash tests/run
 
+line:
+	@bash host/build && echo 'built: target/host/line (--help tells all)'
+
 lister:
 	@rt check lister >&2 && target/bin/lister
+
+fuzz:
+	@bash tests/second/run fuzz
+
+badline:
+	@bash tests/second/run badline
+
+cover:
+	@bash tests/fuzz/run on
 
 bench:
 	@bash bench/run

@@ -1,0 +1,132 @@
+/* A good KSM received: of 232 bytes on tables of 1 to 64 partners, and of every length on the smallest and on the full
+ * table. The originator has a pair and stands in the last slot in use. */
+#include <stdint.h>
+#include <stdio.h>
+#include <stdlib.h>
+#include <string.h>
+
+#include "../host/bytes.h"
+#include "../tests/face/cards.h"
+#include "clock.h"
+
+#define LONG_OWN "ABCDEFGHIJKLMNOP"
+#define LONG_PARTNER "PONMLKJIHGFEDCBA"
+
+enum { SIZES = 7, SHAPES = 6 };
+
+/* what a KSM has: how long its names are, its keys and their flags, and whether it has IV and date */
+static const struct shape {
+    int long_names, keys;
+    uint8_t flags;
+    int iv_and_date;
+    uint32_t count;
+} shapes[SHAPES] = {
+    {0, 1, 0, 0, 1},        {1, 1, 0, 0, 1},        {1, 1, 7, 0, 99999998},
+    {1, 2, 0, 1, 99999998}, {1, 2, 2, 1, 99999998}, {1, 2, 7, 1, 99999998},
+};
+
+static struct test {
+    struct image image;
+    uint8_t *record, fresh[KHL_RECORD];
+    struct text text;
+    int needed; /* cipher blocks that document 01 asks for */
+    size_t place;
+} by_partners[SIZES], by_length[2][SHAPES];
+
+static uint8_t reply[KHL_ROOM], report[KHL_REPORT];
+
+static uint32_t receive(struct test *test) {
+    memcpy(test->record, test->fresh, KHL_RECORD);
+    return khl_receive(test->image.bytes, test->image.length, (const uint8_t *)test->text.bytes, test->text.length,
+                       reply, sizeof reply, report);
+}
+
+static void receive_work(void *test) { receive(test); }
+
+static const char *own(const struct shape *shape) { return shape->long_names ? LONG_OWN : "H"; }
+static const char *partner(const struct shape *shape) { return shape->long_names ? LONG_PARTNER : "M"; }
+
+/* the originator's card writes the KSM */
+static void write_ksm(struct text *text, const struct shape *shape) {
+    static struct image theirs;
+    uint8_t request[KHL_REQUEST] = {0};
+    make_card(&theirs, partner(shape));
+    uint8_t *record = add_partner(&theirs, own(shape), PAIR);
+    put_name(record + KHL_RECORD_NAME, LONG_OWN);
+    put_sending(record, shape->count, shape->count == 1 ? KHL_PHASE_IDLE : KHL_PHASE_BROKEN, 0);
+    request[KHL_REQUEST_COUNT] = (uint8_t)shape->keys;
+    for (int i = 0; i < shape->keys; i++) {
+        uint8_t *asked = request + (i == 0 ? KHL_REQUEST_FIRST : KHL_REQUEST_SECOND);
+        put_number(asked + KHL_ASKED_KEY, KHL_KEY, i == 0 ? 0x133457799BBCDFF1 : 0x0E329232EA6D0D73);
+        asked[KHL_ASKED_FLAGS] = shape->flags;
+        put_name(asked + KHL_ASKED_NAME, LONG_PARTNER);
+    }
+    request[KHL_REQUEST_IV_KIND] = shape->iv_and_date ? KHL_IV_ENCIPHERED : KHL_IV_NONE;
+    request[KHL_REQUEST_DATED] = (uint8_t)shape->iv_and_date;
+    memcpy(request + KHL_REQUEST_DATE, "840229235959", KHL_DATE);
+    const char *us = own(shape);
+    if (khl_build_ksm(theirs.bytes, theirs.length, (const uint8_t *)us, strlen(us), request, sizeof request, reply,
+                      sizeof reply, report) != KHL_DONE) {
+        fprintf(stderr, "a KSM is not built\n");
+        exit(1);
+    }
+    text->length = number_at(report + KHL_REPORT_LENGTH, 2);
+    memcpy(text->bytes, reply, text->length);
+}
+
+/* the blocks of a MAC over a message of that length: without `CSM(` and from `MAC/` on */
+static int mac_blocks(size_t length) { return (int)(length - 4 - 15 + 7) / 8; }
+
+/* so many partners, the originator the last */
+static void make_test(struct test *test, int partners, const struct shape *shape) {
+    make_card(&test->image, own(shape));
+    for (int i = 1; i < partners; i++) {
+        char identity[KHL_NAME];
+        snprintf(identity, sizeof identity, "P%d", i);
+        add_partner(&test->image, identity, PAIR);
+    }
+    test->record = add_partner(&test->image, partner(shape), PAIR);
+    put_name(test->record + KHL_RECORD_NAME, LONG_OWN);
+    memcpy(test->fresh, test->record, KHL_RECORD);
+    write_ksm(&test->text, shape);
+    if (receive(test) != KHL_DONE) {
+        fprintf(stderr, "a good KSM of %zu bytes is not taken\n", test->text.length);
+        exit(1);
+    }
+    test->needed = 3 * shape->keys + shape->iv_and_date + mac_blocks(test->text.length) +
+                   mac_blocks(number_at(report + KHL_REPORT_LENGTH, 2));
+    test->place = add_work(receive_work, test);
+}
+
+void add_receive_works(void) {
+    for (int i = 0; i < SIZES; i++)
+        make_test(&by_partners[i], 1 << i, &shapes[SHAPES - 1]);
+    for (int i = 0; i < SHAPES; i++) {
+        make_test(&by_length[0][i], 1, &shapes[i]);
+        make_test(&by_length[1][i], KHL_PARTNERS, &shapes[i]);
+    }
+}
+
+/* a point of a curve: where it stands, and its height in blocks */
+static void print_point(const char *curve, size_t at, double blocks) {
+    char of[24];
+    snprintf(of, sizeof of, "%zu", at);
+    print_row(curve, of, blocks, "blocks");
+}
+
+static double blocks(const struct test *test) { return time_of(test->place) / block_time(); }
+
+void print_receive(void) {
+    const struct test *full = &by_partners[SIZES - 1];
+    print_row("receive", "KSM of 232 bytes, 64 partners", blocks(full), "blocks");
+    print_row("receive", "KSM of 232 bytes, 64 partners", time_of(full->place) / scheduled_time(),
+              "blocks with schedule");
+    print_row("receive", "KSM of 232 bytes, by document 01", full->needed, "blocks");
+    for (int i = 0; i < SIZES; i++)
+        print_point("partners", (size_t)1 << i, blocks(&by_partners[i]));
+    for (int i = 0; i < SHAPES; i++) {
+        print_point("length, 64 partners", by_length[1][i].text.length, blocks(&by_length[1][i]));
+        print_point("length, 1 partner", by_length[0][i].text.length, blocks(&by_length[0][i]));
+        print_point("length, by document 01", by_length[0][i].text.length, by_length[0][i].needed);
+    }
+}
