@@ -159,7 +159,8 @@ fn finish(state: State, line: &[u8]) {
     io::write_all(1, b"\n");
 }
 
-fn main() {
+// Lists the lines of standard input.
+fn list() {
     let mut line = [0u8; 513];
     let mut chunk = [0u8; 4096];
     let mut state = State {
@@ -183,4 +184,35 @@ fn main() {
         state = take_in(state, &chunk[..n], &mut line);
         reads -= 1;
     }
+}
+
+// What the lister is for, or that it takes no such word.
+fn explain(word: &[u8]) {
+    if octets::same(word, b"--help") {
+        io::write_all(1, b"usage: lister < FILE\n\n");
+        io::write_all(
+            1,
+            b"Reads messages on standard input, one to a line, and prints for each its number, its class\n",
+        );
+        io::write_all(
+            1,
+            b"(or - where it is no message) and its length in bytes (>512 above 512); last the number of\n",
+        );
+        io::write_all(1, b"lines and of those that are messages.\n");
+        return;
+    }
+    io::write_all(
+        2,
+        b"lister: it takes no word but --help; the lines come on standard input\n",
+    );
+}
+
+fn main() {
+    if os::arg_count() < 2 {
+        list();
+        return;
+    }
+    let mut word = [0u8; 8];
+    let n = os::arg(1, &mut word);
+    explain(&word[..n]);
 }
