@@ -1,0 +1,14 @@
+pub mod Walk
+pub mod Aiming
+pub mod Seeing
+pub mod Acting
+pub mod Rows
+pub mod Turns
+pub mod Called
+pub mod Asking
+pub mod Loading
+pub mod Storing
+pub mod Filling
+pub mod Starting
+pub mod Claims
+pub mod Determined

@@ -1,0 +1,13 @@
+-- `row::sight::unseen` meets its contract: field by field. Assumes nothing.
+use borrow.Author.Needs.{needs}
+use Rattle.row.proofs.sight.unseen.Statement.{statement}
+use Rattle.row.proofs.sight.unseen.Tie as tie
+
+empty-requires : tie.Need-empty-requires
+empty-requires c κs = search needs
+
+returns : tie.Need-returns
+returns c = cc
+
+pub unseen-spec : {M : Type 1} → statement M
+unseen-spec = tie.close (tie.spec empty-requires returns)

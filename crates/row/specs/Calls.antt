@@ -1,0 +1,70 @@
+-- The calls over a lent row: those of crate `calls` on the table of our identity and the row's slots; 13 where our identity is
+-- no name.
+use mathlib.Core.Bool.{Bool, not, cond, _&&_}
+use mathlib.Core.List.{List}
+use mathlib.Core.Option.{Option, none, some}
+use Prim.Native.Nat.{ℕ}
+use lib.Dec.{eqb}
+use lib.ListN.{length}
+use Rattle.octets.specs.Text.{Text, is-name}
+use Rattle.partner.specs.declared.Entry.{Entry}
+use Rattle.partner.specs.Entry.{empty, filled}
+use Rattle.image.specs.Table.{Table, legal}
+use Rattle.image.specs.Image.{decode}
+use Rattle.calls.specs.Words.{if_then_else_}
+use Rattle.calls.specs.Outcome.{Outcome, Told, nothing, service, keys, confirmation, failure, shown as showing}
+use Rattle.calls.specs.Calls as every
+use Rattle.row.specs.declared.sight.Sight.{Sight}
+use Rattle.row.specs.declared.sight.Found.{Found}
+
+-- the table of a row
+abbrev pub table : Text → List Entry → Table
+table own slots = record { own = filled own; slots = slots }
+
+-- our identity is a name, and the table is legal
+unfoldable pub row-legal : Text → List Entry → Bool
+row-legal own slots = is-name own && legal (table own slots)
+
+-- a call over a row
+unfoldable pub over : Text → List Entry → every.Call → every.After
+over own slots c =
+    if is-name own then every.run (table own slots) c else every.refuse (table own slots) 13
+
+-- an entry asked for: the answer, and the entry or an empty one
+abbrev pub entry-told : Told → Entry
+entry-told nothing = empty
+entry-told (service s) = empty
+entry-told (keys iv edk) = empty
+entry-told confirmation = empty
+entry-told (failure letters) = empty
+entry-told (showing e) = e
+
+abbrev pub shown-of : Outcome → Found
+shown-of o = record { answer = o .answer; entry = entry-told (o .told) }
+
+unfoldable pub asked : Text → List Entry → Text → Found
+asked own slots id = shown-of (over own slots (every.ask id) .outcome)
+
+-- the same of what is seen of a row
+abbrev pub shown-at : ℕ → Entry → Found
+shown-at n e = record { answer = n; entry = e }
+
+unfoldable pub shown : Sight → Found
+shown s =
+    cond (not (s .legal)) (shown-at 13 empty)
+    (cond (not (s .there)) (shown-at 3 empty) (shown-at 0 (s .entry)))
+
+-- ---- start and image reading
+
+-- the slots of a table, or the row as it was
+abbrev pub slots-or : List Entry → Option Table → List Entry
+slots-or row none = row
+slots-or row (some t) = t .slots
+
+-- 64 empty slots; the row as it was where start is refused
+unfoldable pub start-row : Text → List Entry → List Entry
+start-row own row = if eqb (length row) 64 then slots-or row (every.start own) else row
+
+-- the table that the image holds; the row as it was where it is refused
+unfoldable pub read-row : Text → List Entry → List Entry
+read-row image row = if eqb (length row) 64 then slots-or row (decode image) else row

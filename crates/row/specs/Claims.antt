@@ -1,0 +1,28 @@
+-- What is claimed of the calls over a row; proved as `claims` in proofs/Claims.antt.
+use mathlib.Core.Path.{_≡_}
+use mathlib.Core.Bool.{true, false, _&&_}
+use mathlib.Core.List.{List}
+use mathlib.Core.Option.{some}
+use lib.ListN.{length}
+use Rattle.octets.specs.Text.{Text, is-name}
+use Rattle.octets.specs.Part.{bare}
+use Rattle.partner.specs.declared.Entry.{Entry}
+use Rattle.image.specs.Table.{Table, legal, AllHeld}
+use Rattle.image.specs.Image.{encode, decode}
+use Rattle.calls.specs.Calls.{Call, run, refuse}
+use Rattle.row.specs.Calls.{table, over, read-row}
+
+pub record Claims : Type 0 where
+  -- the two faces agree: on the row of an image's table every call gives the answer, the reply and the table that it
+  -- gives on the image
+  pub faces-agree : (image : Text) (t : Table) (c : Call) → decode image ≡ some t
+      → over (bare (t .own)) (t .slots) c ≡ run t c
+  -- the table of a legal row has an image, and the faces agree on it
+  pub row-has-image : (own : Text) (slots : List Entry) (c : Call) → is-name own && legal (table own slots) ≡ true
+      → AllHeld slots → (decode (encode (table own slots)) ≡ some (table own slots)) × (over own slots c ≡ run (table own slots) c)
+  -- 13: our identity is no name, or the table is not legal
+  pub else-13 : (own : Text) (slots : List Entry) (c : Call) → is-name own && legal (table own slots) ≡ false
+      → over own slots c ≡ refuse (table own slots) 13
+  -- write then read gives the table back, slot by slot, in whatever row of 64 slots it is read
+  pub write-then-read : (own : Text) (slots row : List Entry) → is-name own && legal (table own slots) ≡ true → AllHeld slots
+      → length row ≡ 64 → read-row (encode (table own slots)) row ≡ slots

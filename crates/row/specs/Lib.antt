@@ -1,0 +1,6 @@
+pub mod Aim
+pub mod Sight
+pub mod Acts
+pub mod Calls
+pub mod Stored
+pub mod Claims
