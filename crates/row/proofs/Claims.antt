@@ -3,8 +3,9 @@ use mathlib.Core.Path.{_≡_, refl, sym, ap, _∙_}
 use mathlib.Core.Bool.{Bool, true, false, _&&_}
 use mathlib.Core.List.{List}
 use mathlib.Core.Option.{Option, some}
+use Prim.Native.Nat.{_≤_}
 use lib.Dec.{eqb}
-use lib.ListN.{length}
+use lib.ListN.{length, take}
 use borrow.Author.Tests.{eq-eqb}
 use Rattle.octets.specs.Text.{Text, is-name}
 use Rattle.octets.specs.Part.{bare}
@@ -19,8 +20,10 @@ use Rattle.calls.specs.Words.{if_then_else_}
 use Rattle.calls.specs.Calls.{Call, After, run, refuse}
 use Rattle.calls.proofs.Tests.{if-true, if-false}
 use Rattle.calls.proofs.Tables.{legal-parts, own-name}
-use Rattle.row.specs.Calls.{table, over, slots-or, read-row}
+use Rattle.outcome.specs.Report.{report, replied}
+use Rattle.row.specs.Calls.{table, over, slots-or, read-row, written}
 use Rattle.row.specs.Claims.{Claims}
+use Rattle.row.proofs.Writing.{all-written, image-there}
 
 -- with a name of ours
 over-named : (own : Text) (slots : List Entry) (c : Call) → is-name own ≡ true → over own slots c ≡ run (table own slots) c
@@ -54,6 +57,14 @@ back own slots row h k n =
     if-true (eqb (length row) 64) (slots-or row (decode (encode (table own slots)))) row (eq-eqb (length row) 64 n)
     ∙ ap (slots-or row) (images.claims .write-then-read (table own slots) l k)
 
+written-back : (own : Text) (slots row : List Entry) (out : Text) → is-name own && legal (table own slots) ≡ true
+    → AllHeld slots → length row ≡ 64 → length (encode (table own slots)) ≤ length out
+    → (report (written own slots (length out)) .answer ≡ 0)
+    × (read-row (take (report (written own slots (length out)) .length) (replied (written own slots (length out)) out)) row ≡ slots)
+written-back own slots row out h k n r =
+    let w = image-there own slots out (written own slots (length out)) (all-written own slots (length out) h r) in
+    (w .0, ap (λ (t : Text). read-row t row) (w .1) ∙ back own slots row h k n)
+
 pub claims : Claims
 claims = record {
   faces-agree = agree;
@@ -62,4 +73,5 @@ claims = record {
       (images.claims .write-then-read (table own slots) (p .1) k, over-named own slots c (p .0));
   else-13 = thirteen;
   write-then-read = back;
+  written-then-read = written-back;
 }

@@ -90,3 +90,13 @@ pub read-image : (image : Text) (row : List Entry) (r s : ℕ) (l m : List Entry
     → (s ≡ stored.read-answer image (length row)) × (m ≡ calls.read-row image row) → (r ≡ s) × (l ≡ m)
 read-image image row r s l m p q =
     (equal (stored.read-answer image (length row)) (p .0) (q .0), equal (calls.read-row image row) (p .1) (q .1))
+
+-- image writing: the report, and the buffer left
+pub write-image : (own : Text) (row : List Entry) (b : Text) (r s : Report) (x y : Text)
+    → (r ≡ reports.report (calls.written own row (length b))) × (x ≡ reports.replied (calls.written own row (length b)) b)
+    → (s ≡ reports.report (calls.written own row (length b))) × (y ≡ reports.replied (calls.written own row (length b)) b)
+    → (r ≡ s) × (x ≡ y)
+write-image own row b r s x y p q = (
+  equal (reports.report (calls.written own row (length b))) (p .0) (q .0),
+  equal (reports.replied (calls.written own row (length b)) b) (p .1) (q .1),
+)

@@ -25,7 +25,7 @@ pub record Filling (image : Text) (ys : List Entry) (m : ℕ) : Type 0 where
   pub unset : i ≡ 0 → zs ≡ ys
 
 -- 64 of 64, or none
-filled-64 : (a n : ℕ) → eqb (filled a n) 64 ≡ true → n ≡ 64
+pub filled-64 : (a n : ℕ) → eqb (filled a n) 64 ≡ true → n ≡ 64
 unfolding filled
 filled-64 a n h = go (eqb a 0) (eqb n 64) refl h
   where
@@ -34,7 +34,7 @@ filled-64 a n h = go (eqb a 0) (eqb n 64) refl h
     go true false e k = absurd (true≢false (sym k))
     go false c e k = absurd (true≢false (sym k))
 
-filled-0 : (a n : ℕ) → eqb (filled a n) 64 ≡ false → filled a n ≡ 0
+pub filled-0 : (a n : ℕ) → eqb (filled a n) 64 ≡ false → filled a n ≡ 0
 unfolding filled
 filled-0 a n h = go (eqb a 0) (eqb n 64) h
   where

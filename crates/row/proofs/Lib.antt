@@ -10,5 +10,7 @@ pub mod Loading
 pub mod Storing
 pub mod Filling
 pub mod Starting
+pub mod Laying
+pub mod Writing
 pub mod Claims
 pub mod Determined

@@ -4,15 +4,15 @@ use mathlib.Core.Bool.{Bool, not, cond, _&&_}
 use mathlib.Core.List.{List}
 use mathlib.Core.Option.{Option, none, some}
 use Prim.Native.Nat.{ℕ}
-use lib.Dec.{eqb}
+use lib.Dec.{eqb, ltb}
 use lib.ListN.{length}
 use Rattle.octets.specs.Text.{Text, is-name}
 use Rattle.partner.specs.declared.Entry.{Entry}
 use Rattle.partner.specs.Entry.{empty, filled}
 use Rattle.image.specs.Table.{Table, legal}
-use Rattle.image.specs.Image.{decode}
+use Rattle.image.specs.Image.{encode, decode}
 use Rattle.calls.specs.Words.{if_then_else_}
-use Rattle.calls.specs.Outcome.{Outcome, Told, nothing, service, keys, confirmation, failure, shown as showing}
+use Rattle.calls.specs.Outcome.{Outcome, Told, nothing, service, keys, confirmation, failure, shown as showing, refusal, success}
 use Rattle.calls.specs.Calls as every
 use Rattle.row.specs.declared.sight.Sight.{Sight}
 use Rattle.row.specs.declared.sight.Found.{Found}
@@ -68,3 +68,11 @@ start-row own row = if eqb (length row) 64 then slots-or row (every.start own) e
 -- the table that the image holds; the row as it was where it is refused
 unfoldable pub read-row : Text → List Entry → List Entry
 read-row image row = if eqb (length row) 64 then slots-or row (decode image) else row
+
+-- ---- image writing
+
+-- the table's image; 13 where our identity is no name or the table is not legal, 6 where the image does not fit
+unfoldable pub written : Text → List Entry → ℕ → Outcome
+written own slots room =
+    if not (row-legal own slots) then refusal 13
+    else (if ltb room (length (encode (table own slots))) then refusal 6 else success (encode (table own slots)) nothing)

@@ -3,14 +3,16 @@ use mathlib.Core.Path.{_≡_}
 use mathlib.Core.Bool.{true, false, _&&_}
 use mathlib.Core.List.{List}
 use mathlib.Core.Option.{some}
-use lib.ListN.{length}
+use Prim.Native.Nat.{_≤_}
+use lib.ListN.{length, take}
 use Rattle.octets.specs.Text.{Text, is-name}
 use Rattle.octets.specs.Part.{bare}
 use Rattle.partner.specs.declared.Entry.{Entry}
 use Rattle.image.specs.Table.{Table, legal, AllHeld}
 use Rattle.image.specs.Image.{encode, decode}
 use Rattle.calls.specs.Calls.{Call, run, refuse}
-use Rattle.row.specs.Calls.{table, over, read-row}
+use Rattle.outcome.specs.Report.{report, replied}
+use Rattle.row.specs.Calls.{table, over, read-row, written}
 
 pub record Claims : Type 0 where
   -- the two faces agree: on the row of an image's table every call gives the answer, the reply and the table that it
@@ -26,3 +28,9 @@ pub record Claims : Type 0 where
   -- write then read gives the table back, slot by slot, in whatever row of 64 slots it is read
   pub write-then-read : (own : Text) (slots row : List Entry) → is-name own && legal (table own slots) ≡ true → AllHeld slots
       → length row ≡ 64 → read-row (encode (table own slots)) row ≡ slots
+  -- what image writing leaves in a buffer with room for it, as long as it reports, image reading gives back, slot by slot,
+  -- in whatever row of 64 slots it is read
+  pub written-then-read : (own : Text) (slots row : List Entry) (out : Text) → is-name own && legal (table own slots) ≡ true
+      → AllHeld slots → length row ≡ 64 → length (encode (table own slots)) ≤ length out
+      → (report (written own slots (length out)) .answer ≡ 0)
+      × (read-row (take (report (written own slots (length out)) .length) (replied (written own slots (length out)) out)) row ≡ slots)

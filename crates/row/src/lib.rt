@@ -205,3 +205,41 @@ pub fn read_image(image: &[u8], row: &mut [Entry]) -> u32
     fill(row, image, answer);
     answer
 }
+
+// The size of the row's image: the front and the slots' records.
+fn size(row: &[Entry]) -> usize
+    ensures { λ r. ⌜ r ≡ stored.size (now (row .entry)) ⌝ }
+{
+    let mut size = 17;
+    let mut at = 0;
+    while at < row.len() {
+        size += stored::slot_length(look_up(row, at));
+        at += 1;
+    }
+    size
+}
+
+// The slots' records laid behind the front, one after the other, where the answer is 0.
+fn lay(row: &[Entry], out: &mut [u8], answer: u32)
+    ensures { λ r. ⌜ now (out .exit) ≡ stored.laid answer (now (row .entry)) (now (out .entry)) ⌝ }
+{
+    let count = stored::filled(answer, row.len());
+    let mut to = 17;
+    let mut at = 0;
+    while at < count {
+        to = stored::put_slot(out, to, look_up(row, at));
+        at += 1;
+    }
+}
+
+// Image writing: 13, 6 (the image does not fit). The whole image at the front of `out`, its length in the report.
+pub fn write_image(row: &[Entry], own: &[u8], out: &mut [u8]) -> Report
+    ensures { λ r. ⌜ r ≡ report.report (calls.written (now (own .entry)) (now (row .entry)) (length (now (out .entry)))) ⌝ }
+    ensures { λ r. ⌜ now (out .exit) ≡ report.replied (calls.written (now (own .entry)) (now (row .entry)) (length (now (out .entry)))) (now (out .entry)) ⌝ }
+{
+    let ours = legal(row, own);
+    let size = size(row);
+    let answer = stored::write_answer(ours, size, out.len());
+    lay(row, out, answer);
+    stored::written(out, own, answer, size)
+}

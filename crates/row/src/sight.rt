@@ -27,7 +27,7 @@ pub struct Found {
 }
 
 // Whether a slot is empty: zero in every byte.
-fn is_empty(e: Entry) -> bool
+pub fn is_empty(e: Entry) -> bool
     ensures { λ r. ⌜ r ≡ is-empty e ⌝ }
 {
     let mut bytes = [0u8; 156];

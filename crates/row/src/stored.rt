@@ -1,10 +1,13 @@
-// A stored image, slot by slot, and what start and image reading answer.
+// A stored image, slot by slot, and what start, image reading and image writing answer.
 ghost use mathlib.Core.Path.{_≡_};
 ghost use Prim.Native.Nat.{_≤_};
 ghost use lib.ListN.{length, drop, getD};
 ghost use Rattle.partner.specs.Entry.{empty};
-ghost use Rattle.image.specs.Image.{slots-in};
+ghost use Rattle.octets.specs.Wrote.{Wrote, over};
+ghost use Rattle.image.specs.Image.{slots-in, slot-bytes};
 ghost use Rattle.row.specs.Stored as stored;
+use outcome::Report;
+use outcome::Telling;
 use partner::Entry;
 
 // The byte at a place, 0 past the end.
@@ -86,4 +89,82 @@ pub fn filled(answer: u32, slots: usize) -> usize
         return 0;
     }
     64
+}
+
+// ---- image writing
+
+// The length of a slot's record.
+pub fn slot_length(e: Entry) -> usize
+    ensures { λ r. ⌜ r ≡ length (slot-bytes e) ⌝ }
+    ensures { λ r. ⌜ r ≤ 157 ⌝ }
+{
+    if crate::sight::is_empty(e) { 1 } else { 157 }
+}
+
+// A slot's record at the front of what is left: one byte 0, or 2 and the entry's 156 bytes.
+fn put_record(rest: &mut [u8], e: Entry) -> usize
+    requires { ⌜ length (slot-bytes e) ≤ length (now rest) ⌝ }
+    ensures { λ r. ⌜ Wrote (slot-bytes e) (now (rest .entry)) (now (rest .exit)) r ⌝ }
+{
+    if crate::sight::is_empty(e) {
+        return octets::fill(rest, 1, 0);
+    }
+    let a = octets::fill(rest, 1, 2);
+    a + partner::put_entry(&mut rest[a..], e)
+}
+
+// A slot's record at a place, where there is room for it; the place behind it.
+pub fn put_slot(out: &mut [u8], at: usize, e: Entry) -> usize
+    ensures { λ r. ⌜ now (out .exit) ≡ stored.put-slot at e (now (out .entry)) ⌝ }
+    ensures { λ r. ⌜ r ≡ stored.behind at e (length (now (out .entry))) ⌝ }
+{
+    let size = slot_length(e);
+    if out.len() < size {
+        return at;
+    }
+    if out.len() - size < at {
+        return at;
+    }
+    at + put_record(&mut out[at..], e)
+}
+
+// Image writing: 13 (our identity is no name, or the row is not legal), 6 (the image does not fit).
+pub fn write_answer(legal: bool, size: usize, room: usize) -> u32
+    ensures { λ r. ⌜ r ≡ stored.write-answer legal size room ⌝ }
+{
+    if !legal {
+        return 13;
+    }
+    if room < size {
+        return 6;
+    }
+    0
+}
+
+// Our identity's record, filled: 17 bytes, as many as there is room for.
+fn put_front(out: &mut [u8], own: &[u8])
+    ensures { λ r. ⌜ now (out .exit) ≡ over (stored.front (now (own .entry))) (now (out .entry)) ⌝ }
+{
+    let mut front = [1u8; 17];
+    let name = partner::name_of(own);
+    octets::copy(&mut front[1..], &name.bytes);
+    octets::copy(out, &front);
+}
+
+// The front laid where the answer is 0, and the report.
+pub fn written(out: &mut [u8], own: &[u8], answer: u32, size: usize) -> Report
+    ensures { λ r. ⌜ r ≡ stored.write-report answer size ⌝ }
+    ensures { λ r. ⌜ now (out .exit) ≡ stored.fronted answer (now (own .entry)) (now (out .entry)) ⌝ }
+{
+    if answer != 0 {
+        return outcome::refusal(answer);
+    }
+    put_front(out, own);
+    Report {
+        answer: 0,
+        letters: 0,
+        length: size,
+        telling: Telling::Nothing,
+        date: outcome::no_date(),
+    }
 }

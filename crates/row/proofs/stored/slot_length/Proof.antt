@@ -1,0 +1,34 @@
+-- `row::stored::slot_length` meets its contract: an entry's record has 156 bytes. Assumes nothing.
+use mathlib.Core.Path.{_≡_, sym, ap, _∙_}
+use native.Mathlib.Omega.{arith}
+use borrow.Author.Needs.{needs}
+use lib.ListN.{length}
+use Rattle.partner.specs.Record.{entry-bytes}
+use Rattle.row.proofs.Laying.{entry-held, empty-record, partner-record}
+use Rattle.row.proofs.stored.slot_length.Statement.{statement}
+use Rattle.row.proofs.stored.slot_length.Tie as tie
+
+is-empty-requires : tie.Need-is-empty-requires
+is-empty-requires c κs = search needs
+
+returns : tie.Need-returns
+returns c =
+    (sym (ap length (empty-record (c .before .before .args .e) (sym (c .before .is-empty .ensures) ∙ c .if1 .taken))), omega arith)
+
+returns-2 : tie.Need-returns-2
+returns-2 c =
+    let e = c .before .before .args .e in
+    let s : length (entry-bytes (c .before .before .args .e)) ≡ 156 =
+    entry-held (c .before .before .args .e)
+    (c .before .before .good .0 .1 .1 .0 .1 .1 .0 .1 .0 .1)
+    (c .before .before .good .0 .1 .1 .1 .0 .1 .1 .0 .1 .0 .1)
+    (c .before .before .good .0 .1 .1 .1 .1 .1 .1 .1 .1 .1 .1 .0 .1 .1 .1 .0 .1 .1 .1 .0 .1 .1 .0 .1 .0 .1)
+    (c .before .before .good .0 .1 .1 .1 .1 .1 .1 .1 .1 .1 .1 .0 .1 .1 .1 .1 .0 .1 .1 .1 .0 .1 .1 .0 .1 .0 .1)
+    (c .before .before .good .0 .1 .1 .1 .1 .1 .1 .1 .1 .1 .1 .1 .0 .1 .1 .1 .0 .1 .1 .1 .0 .1 .1 .0 .1 .0 .1)
+    (c .before .before .good .0 .1 .1 .1 .1 .1 .1 .1 .1 .1 .1 .1 .0 .1 .1 .1 .1 .0 .1 .1 .1 .0 .1 .1 .0 .1 .0 .1) in (
+      sym (ap length (partner-record e (sym (c .before .is-empty .ensures) ∙ c .if1 .left)) ∙ omega (arith, s)),
+      omega arith,
+    )
+
+pub slot-length-spec : {M : Type 1} → statement M
+slot-length-spec = tie.close (tie.spec is-empty-requires returns returns-2)
