@@ -1,0 +1,170 @@
+// What is written out.
+use crate::script;
+use outcome::Report;
+use outcome::Telling;
+use partner::DataKey;
+use partner::Entry;
+use partner::KeySet;
+use partner::Name;
+use row::Found;
+
+// Some bytes, on standard output.
+fn put(text: &[u8]) {
+    io::write_all(1, text);
+}
+
+// The move in words.
+fn put_words(act: u8) {
+    match act {
+        script::START => put(b" starts"),
+        script::LOAD => put(b" loads the pair"),
+        script::REMOVE => put(b" removes its partner"),
+        script::ASK => put(b" asks for its partner"),
+        script::GIVE_UP => put(b" gives up"),
+        script::BUILD_KSM => put(b" builds a KSM"),
+        script::BUILD_RSI => put(b" builds an RSI"),
+        script::RECEIVE => put(b" receives"),
+        script::WRITE => put(b" writes its image"),
+        script::READ => put(b" reads its image"),
+        _ => put(b" looks its row over"),
+    }
+}
+
+// Who does what.
+pub fn heading(own: &[u8], act: u8) {
+    put(own);
+    put_words(act);
+    put(b"\n");
+}
+
+// A letter, where its bit is set.
+fn put_letter(letters: u64, bit: u64, letter: u8) {
+    if letters & bit != 0 {
+        put(&[letter]);
+    }
+}
+
+// The letters of an error, in the order of ERF.
+fn put_letters(letters: u64) {
+    put_letter(letters, 1, b'A');
+    put_letter(letters, 2, b'B');
+    put_letter(letters, 4, b'F');
+    put_letter(letters, 8, b'I');
+    put_letter(letters, 16, b'K');
+    put_letter(letters, 32, b'M');
+    put_letter(letters, 64, b'O');
+    put_letter(letters, 128, b'P');
+    put_letter(letters, 256, b'U');
+}
+
+// What is told besides the answer.
+fn put_telling(telling: Telling) {
+    match telling {
+        Telling::Nothing => put(b""),
+        Telling::Service(n) => {
+            put(b", service number ");
+            io::print_decimal(1, n);
+        }
+        Telling::Keys(handed) => {
+            put(b", new keys");
+            if handed.vector {
+                put(b", IV ");
+                io::print_hex(1, handed.iv, 16);
+            }
+        }
+        Telling::Confirmation => put(b", confirmed"),
+        Telling::Failure(letters) => {
+            put(b", failed: ");
+            put_letters(letters);
+        }
+    }
+}
+
+// The answer, the letters of an error, and what is told.
+pub fn told(report: Report) {
+    let telling = report.telling;
+    put(b"  answer ");
+    io::print_decimal(1, report.answer as u64);
+    if report.letters != 0 {
+        put(b", letters ");
+        put_letters(report.letters);
+    }
+    put_telling(telling);
+    put(b"\n");
+}
+
+// What a call put out: a message as it is, of an image its length.
+pub fn text(act: u8, text: &[u8]) {
+    put(b"  ");
+    if act == script::WRITE {
+        io::print_decimal(1, text.len() as u64);
+        put(b" bytes");
+    } else {
+        put(text);
+    }
+    put(b"\n");
+}
+
+// A name without the blanks that fill it.
+fn put_name(name: Name) {
+    put(octets::bare(&name.bytes));
+}
+
+// A data key and its name.
+fn put_key(key: DataKey) {
+    let name = key.name;
+    put(b" ");
+    io::print_hex(1, key.key, 16);
+    put(b" ");
+    put_name(name);
+}
+
+// The keys of one direction.
+fn put_keys(direction: &[u8], set: KeySet) {
+    let first = set.first;
+    let second = set.second;
+    put(direction);
+    if 0 < set.count {
+        put_key(first);
+    }
+    if 1 < set.count {
+        put_key(second);
+    }
+    put(b"\n");
+}
+
+// An entry: its counts, its phase and the data keys of both directions.
+fn put_entry(e: Entry) {
+    let name = e.name;
+    let outgoing = e.outgoing;
+    let incoming = e.incoming;
+    put(b"  key ");
+    put_name(name);
+    put(b" next ");
+    io::print_decimal(1, e.next as u64);
+    put(b" expected ");
+    io::print_decimal(1, e.expected as u64);
+    put(b" phase ");
+    io::print_decimal(1, e.phase as u64);
+    put(b"\n");
+    put_keys(b"  outgoing", outgoing);
+    put_keys(b"  incoming", incoming);
+}
+
+// The entry asked for, where there is one.
+pub fn found(found: Found) -> Report {
+    let answer = found.answer;
+    let entry = found.entry;
+    if answer == 0 {
+        put_entry(entry);
+    }
+    outcome::refusal(answer)
+}
+
+// Whether the row is legal: 0 or 13.
+pub fn judged(legal: bool) -> Report {
+    if legal {
+        return outcome::refusal(0);
+    }
+    outcome::refusal(13)
+}
