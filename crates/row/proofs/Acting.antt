@@ -18,8 +18,8 @@ use Rattle.outcome.specs.declared.Asked.{Asked}
 use Rattle.outcome.specs.declared.Telling.the-variants.{Nothing}
 use Rattle.outcome.specs.Report.{report, turned, replied, refused-turned, done-turned, no-date}
 use Rattle.outcome.specs.Acts as turns
-use Rattle.row.specs.declared.aims.Aim.{Aim}
-use Rattle.row.specs.declared.sight.Sight.{Sight}
+use Rattle.sight.specs.declared.aims.Aim.{Aim}
+use Rattle.sight.specs.declared.Sight.{Sight}
 use Rattle.row.specs.Acts.{no-room, refusal, act, unfit, load-refusal, load}
 
 -- the first test that holds gives its number

@@ -1,42 +1,25 @@
 -- An entry asked for over a row is the one that the row's table has.
-use mathlib.Core.Path.{_≡_, refl, sym, ap, _∙_, subst}
-use mathlib.Core.Bool.{Bool, true, false, not, cond, _&&_}
+use mathlib.Core.Path.{_≡_, refl, sym, ap, _∙_}
+use mathlib.Core.Bool.{Bool, true, false, _&&_}
 use mathlib.Core.List.{List}
 use mathlib.Core.Option.{Option, none, some}
-use Rattle.octets.specs.Text.{Text, same, is-name}
+use Rattle.octets.specs.Text.{Text, is-name}
 use Rattle.partner.specs.declared.Entry.{Entry}
-use Rattle.partner.specs.Entry.{empty, filled}
+use Rattle.partner.specs.Entry.{filled}
 use Rattle.image.specs.Table.{legal, find}
 use Rattle.calls.specs.Words.{if_then_else_}
 use Rattle.calls.specs.Calls as every
 use Rattle.calls.specs.Calls.{After, refuse}
 use Rattle.calls.proofs.Tests.{if-true, if-false}
-use Rattle.row.specs.declared.aims.Aim.{Aim}
-use Rattle.row.specs.declared.sight.Sight.{Sight}
-use Rattle.row.specs.declared.sight.Found.{Found}
-use Rattle.row.specs.Aim.{at-partner}
-use Rattle.row.specs.Sight.{is-sought, survey}
-use Rattle.row.specs.Calls.{table, over, shown, shown-at, shown-of, asked}
-use Rattle.row.proofs.Rows.{first, survey-legal, survey-found, survey-missed}
-use Rattle.row.proofs.Turns.{first-same, first-none, first-find, sought-named, sought-unnamed}
-
--- by what is seen
-shown-13 : (s : Sight) → s .legal ≡ false → shown s ≡ shown-at 13 empty
-unfolding shown
-shown-13 s l =
-    ap (λ (b : Bool). cond (not b) (shown-at 13 empty) (cond (not (s .there)) (shown-at 3 empty) (shown-at 0 (s .entry)))) l
-
-shown-3 : (s : Sight) → s .legal ≡ true → s .there ≡ false → shown s ≡ shown-at 3 empty
-unfolding shown
-shown-3 s l h =
-    ap (λ (b : Bool). cond (not b) (shown-at 13 empty) (cond (not (s .there)) (shown-at 3 empty) (shown-at 0 (s .entry)))) l
-    ∙ ap (λ (b : Bool). cond (not b) (shown-at 3 empty) (shown-at 0 (s .entry))) h
-
-shown-0 : (s : Sight) (e : Entry) → s .legal ≡ true → s .there ≡ true → s .entry ≡ e → shown s ≡ shown-at 0 e
-unfolding shown
-shown-0 s e l h k =
-    ap (λ (b : Bool). cond (not b) (shown-at 13 empty) (cond (not (s .there)) (shown-at 3 empty) (shown-at 0 (s .entry)))) l
-    ∙ ap (λ (b : Bool). cond (not b) (shown-at 3 empty) (shown-at 0 (s .entry))) h ∙ ap (shown-at 0) k
+use Rattle.sight.specs.declared.aims.Aim.{Aim}
+use Rattle.sight.specs.declared.Sight.{Sight}
+use Rattle.sight.specs.Aim.{at-partner}
+use Rattle.sight.specs.Table.{table}
+use Rattle.sight.specs.Sight.{survey, shown}
+use Rattle.sight.proofs.Rows.{survey-legal, survey-found, survey-missed}
+use Rattle.sight.proofs.Finding.{first-named, first-unnamed}
+use Rattle.sight.proofs.Showing.{shown-13, shown-3, shown-0}
+use Rattle.row.specs.Calls.{over, shown-of, asked}
 
 -- an entry asked for
 pub asked-is : (own : Text) (slots : List Entry) (id : Text) → shown (survey (at-partner own id) slots) ≡ asked own slots id
@@ -55,9 +38,9 @@ asked-is own slots id = by-own (is-name own) refl
     by-entry : s .legal ≡ true → is-name id ≡ true → (o : Option Entry) → find (filled id) slots ≡ o
         → shown s ≡ shown-of (every.turned (table own slots) id every.told o .outcome)
     by-entry l n none h =
-        shown-3 s l (survey-missed a slots (first-same _ _ slots (sought-named own id n) ∙ first-find (filled id) slots ∙ h) .0)
+        shown-3 s l (survey-missed a slots (first-named own id slots n ∙ h) .0)
     by-entry l n (some e) h =
-        let k = survey-found a slots e (first-same _ _ slots (sought-named own id n) ∙ first-find (filled id) slots ∙ h) in
+        let k = survey-found a slots e (first-named own id slots n ∙ h) in
         shown-0 s e l (k .there) (k .entry)
 
     by-name : s .legal ≡ true → (b : Bool) → is-name id ≡ b
@@ -66,7 +49,7 @@ asked-is own slots id = by-own (is-name own) refl
         by-entry l n (find (filled id) slots) refl
         ∙ ap (λ (o : Option Entry). shown-of (every.turned (table own slots) id every.told o .outcome)) (sym (if-true (is-name id) _ _ n))
     by-name l false n =
-        shown-3 s l (survey-missed a slots (first-same _ _ slots (sought-unnamed own id n) ∙ first-none slots) .0)
+        shown-3 s l (survey-missed a slots (first-unnamed own id slots n) .0)
         ∙ ap (λ (o : Option Entry). shown-of (every.turned (table own slots) id every.told o .outcome)) (sym (if-false (is-name id) _ _ n))
 
     by-table : is-name own ≡ true → (b : Bool) → legal (table own slots) ≡ b

@@ -30,14 +30,15 @@ use Rattle.outcome.specs.declared.Turned.{Turned}
 use Rattle.outcome.specs.declared.Act.the-variants.{Receive, BuildKsm, BuildRsi, GiveUp, Remove}
 use Rattle.outcome.specs.Report.{turned, replied, report}
 use Rattle.outcome.specs.Acts as turns
-use Rattle.row.specs.declared.aims.Aim.{Aim}
-use Rattle.row.specs.declared.sight.Sight.{Sight}
-use Rattle.row.specs.Aim.{at-partner, refused as nobody, of-reading}
-use Rattle.row.specs.Sight.{survey}
+use Rattle.sight.specs.declared.aims.Aim.{Aim}
+use Rattle.sight.specs.declared.Sight.{Sight}
+use Rattle.sight.specs.Aim.{at-partner, refused as nobody, of-reading}
+use Rattle.sight.specs.Sight.{survey}
+use Rattle.sight.specs.Table.{table}
+use Rattle.sight.proofs.Rows.{survey-legal}
 use Rattle.row.specs.Acts.{no-room, act, quiet}
-use Rattle.row.specs.Calls.{table, over}
+use Rattle.row.specs.Calls.{over}
 use Rattle.row.proofs.Acting.{gives-13, gives-6, gives-answer}
-use Rattle.row.proofs.Rows.{survey-legal}
 use Rattle.row.proofs.Turns.{Ends, refuses, seen-legal, at-entry}
 
 -- what is asked of one partner's entry, as a call

@@ -21,7 +21,8 @@ use Rattle.calls.specs.Calls.{Call, After, run, refuse}
 use Rattle.calls.proofs.Tests.{if-true, if-false}
 use Rattle.calls.proofs.Tables.{legal-parts, own-name}
 use Rattle.outcome.specs.Report.{report, replied}
-use Rattle.row.specs.Calls.{table, over, slots-or, read-row, written}
+use Rattle.sight.specs.Table.{table}
+use Rattle.row.specs.Calls.{over, slots-or, read-row, written}
 use Rattle.row.specs.Claims.{Claims}
 use Rattle.row.proofs.Writing.{all-written, image-there}
 

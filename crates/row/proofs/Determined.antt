@@ -13,7 +13,8 @@ use Rattle.calls.specs.declared.Request.{Request}
 use Rattle.calls.specs.Calls as every
 use Rattle.outcome.specs.declared.Report.{Report}
 use Rattle.outcome.specs.Report as reports
-use Rattle.row.specs.declared.sight.Found.{Found}
+use Rattle.sight.specs.declared.Found.{Found}
+use Rattle.sight.specs.Table.{row-legal}
 use Rattle.row.specs.Stored as stored
 use Rattle.row.specs.Calls as calls
 
@@ -27,8 +28,8 @@ look-up row at r s = equal (getD row at empty)
 pub replace : (row : List Entry) (at : ℕ) (e : Entry) (l m : List Entry) → l ≡ set row at e → m ≡ set row at e → l ≡ m
 replace row at e l m = equal (set row at e)
 
-pub legal : (own : Text) (row : List Entry) (r s : Bool) → r ≡ calls.row-legal own row → s ≡ calls.row-legal own row → r ≡ s
-legal own row r s = equal (calls.row-legal own row)
+pub legal : (own : Text) (row : List Entry) (r s : Bool) → r ≡ row-legal own row → s ≡ row-legal own row → r ≡ s
+legal own row r s = equal (row-legal own row)
 
 pub ask : (own : Text) (row : List Entry) (id : Text) (r s : Found) → r ≡ calls.asked own row id → s ≡ calls.asked own row id
     → r ≡ s

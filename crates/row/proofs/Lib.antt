@@ -1,8 +1,6 @@
 pub mod Walk
-pub mod Aiming
-pub mod Seeing
+pub mod Looking
 pub mod Acting
-pub mod Rows
 pub mod Turns
 pub mod Called
 pub mod Asking

@@ -6,17 +6,14 @@ use mathlib.Core.Option.{Option, none, some}
 use Prim.Native.Nat.{ℕ, _+_}
 use native.Mathlib.Omega.{arith}
 use lib.ListN.{set}
-use borrow.Author.Tests.{not-true, not-false}
 use Rattle.octets.specs.Text.{Text, same, is-name}
 use Rattle.keying.specs.declared.Top.{Top}
 use Rattle.keying.specs.Keys.{odd-top}
-use Rattle.csm.proofs.TextLaws.{none-some}
 use Rattle.partner.specs.declared.Entry.{Entry}
 use Rattle.partner.specs.Entry.{filled, name-of}
-use Rattle.partner.specs.Legal as partner
 use Rattle.partner.specs.Changes.{loaded}
 use Rattle.partner.proofs.Claims as entries
-use Rattle.image.specs.Table.{Table, is-empty, identities, differs, legal, place, behind}
+use Rattle.image.specs.Table.{Table, is-empty, identities, differs, legal, place}
 use Rattle.calls.specs.Words.{if_then_else_}
 use Rattle.calls.specs.Outcome.{Turn}
 use Rattle.calls.specs.Calls as every
@@ -26,14 +23,16 @@ use Rattle.calls.proofs.Slots.{empty-nobody}
 use Rattle.outcome.specs.declared.Report.{Report}
 use Rattle.outcome.specs.declared.Turned.{Turned}
 use Rattle.outcome.specs.Report.{turned, report}
-use Rattle.row.specs.declared.aims.Aim.{Aim}
-use Rattle.row.specs.declared.sight.Sight.{Sight}
-use Rattle.row.specs.Aim.{at-free-slot}
-use Rattle.row.specs.Sight.{is-theirs, is-sought, unseen, see, pass, concluded, survey}
+use Rattle.sight.specs.declared.aims.Aim.{Aim}
+use Rattle.sight.specs.declared.Sight.{Sight}
+use Rattle.sight.specs.Aim.{at-free-slot}
+use Rattle.sight.specs.Sight.{is-theirs, is-sought, unseen, see, pass, concluded, survey}
+use Rattle.sight.specs.Table.{table}
+use Rattle.sight.proofs.Rows.{first, survey-legal, survey-found, survey-missed, survey-keeps}
+use Rattle.sight.proofs.Finding.{none-free, one-free}
 use Rattle.row.specs.Acts.{unfit, load-refusal, load}
-use Rattle.row.specs.Calls.{table, over}
+use Rattle.row.specs.Calls.{over}
 use Rattle.row.proofs.Acting.{loads-13, loads-10, loads-12, loads-11, loads-9, loads-0, load-refused, load-done}
-use Rattle.row.proofs.Rows.{first, putting, survey-legal, survey-found, survey-missed, survey-keeps}
 use Rattle.row.proofs.Turns.{Ends}
 
 -- ---- whether the identity is taken
@@ -107,26 +106,6 @@ unfit-is own id slots = go (is-name id) refl
     go false h =
         ap (λ (b : Bool). not b || (survey (at-free-slot own id) slots .taken || same (filled own) (filled id))) h
         ∙ sym (ap (λ (b : Bool). not (b && (not (same (filled own) (filled id)) && differs (filled id) (identities slots)))) h)
-
--- ---- the lowest free slot
-
-none-free : (x : Entry) (l : List Entry) → first is-empty l ≡ none → place x l ≡ none
-none-free x [] h = refl
-none-free x (e ∷ l) h = go (is-empty e) h (none-free x l)
-  where
-    go : (b : Bool) → cond b (some e) (first is-empty l) ≡ none → (first is-empty l ≡ none → place x l ≡ none)
-        → cond b (some (x ∷ l)) (behind e (place x l)) ≡ none
-    go true h ih = absurd (none-some e (sym h))
-    go false h ih = ap (behind e) (ih h)
-
-one-free : (x : Entry) (l : List Entry) (f : Entry) → first is-empty l ≡ some f → place x l ≡ some (putting is-empty x l)
-one-free x [] f h = absurd (none-some f h)
-one-free x (e ∷ l) f h = go (is-empty e) h (one-free x l f)
-  where
-    go : (b : Bool) → cond b (some e) (first is-empty l) ≡ some f → (first is-empty l ≡ some f → place x l ≡ some (putting is-empty x l))
-        → cond b (some (x ∷ l)) (behind e (place x l)) ≡ some (cond b (x ∷ l) (e ∷ putting is-empty x l))
-    go true h ih = refl
-    go false h ih = ap (behind e) (ih h)
 
 -- ---- the load
 

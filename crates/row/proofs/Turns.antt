@@ -1,72 +1,31 @@
 -- What is seen of a row decides every call: the calls over a row are those of crate `calls` on its table.
 use mathlib.Core.Path.{_≡_, refl, sym, ap, _∙_, subst}
-use mathlib.Core.Bool.{Bool, true, false, not, cond, _&&_}
-use mathlib.Core.List.{List, [], _∷_}
+use mathlib.Core.Bool.{Bool, true, false}
+use mathlib.Core.List.{List}
 use mathlib.Core.Option.{Option, none, some}
 use Prim.Native.Nat.{ℕ}
 use native.Mathlib.Omega.{arith}
-use lib.Dec.{ltb}
-use lib.ListN.{length, set}
-use Rattle.octets.specs.Text.{Text, same, is-name}
-use Rattle.octets.specs.Part.{bare}
-use Rattle.csm.specs.Message.{Reading, read}
+use lib.ListN.{set}
+use Rattle.octets.specs.Text.{Text, is-name}
 use Rattle.partner.specs.declared.Entry.{Entry}
 use Rattle.partner.specs.Entry.{filled}
 use Rattle.partner.specs.Legal as partner
-use Rattle.partner.proofs.Claims as entries
-use Rattle.image.specs.Table.{Table, legal, find, put}
-use Rattle.calls.specs.declared.Request.{Request}
-use Rattle.calls.specs.Outcome.{Turn, refused}
-use Rattle.calls.specs.Receive as by-class
-use Rattle.calls.specs.Build as building
+use Rattle.image.specs.Table.{legal, find}
+use Rattle.calls.specs.Outcome.{Turn}
 use Rattle.calls.specs.Calls as every
 use Rattle.calls.specs.Calls.{After, refuse}
 use Rattle.calls.proofs.Tests.{if-true, if-false}
 use Rattle.calls.proofs.Tables.{held, held-legal}
-use Rattle.outcome.specs.declared.Act.{Act}
 use Rattle.outcome.specs.declared.Asked.{Asked}
-use Rattle.outcome.specs.declared.Act.the-variants.{Receive, BuildKsm, BuildRsi, GiveUp, Remove}
 use Rattle.outcome.specs.Acts as turns
-use Rattle.row.specs.declared.aims.Aim.{Aim}
-use Rattle.row.specs.Aim.{at-partner}
-use Rattle.row.specs.Sight.{is-theirs, is-sought, survey}
+use Rattle.sight.specs.declared.aims.Aim.{Aim}
+use Rattle.sight.specs.Aim.{at-partner}
+use Rattle.sight.specs.Sight.{is-sought, survey}
+use Rattle.sight.specs.Table.{table}
+use Rattle.sight.proofs.Rows.{first, survey-legal, survey-found, survey-missed, survey-keeps}
+use Rattle.sight.proofs.Finding.{first-named, first-unnamed, putting-named}
 use Rattle.row.specs.Acts.{no-room, refusal, act}
-use Rattle.row.specs.Calls.{table}
-use Rattle.row.proofs.Acting.{gives-13, gives-6, gives-answer, gives-3, gives-0, act-refused, act-turned}
-use Rattle.row.proofs.Rows.{first, putting, survey-legal, survey-found, survey-missed, survey-keeps}
-
--- ---- the partner's slot
-
-pub first-same : (f g : Entry → Bool) (l : List Entry) → ((e : Entry) → f e ≡ g e) → first f l ≡ first g l
-first-same f g [] h = refl
-first-same f g (e ∷ l) h = rw (h e, first-same f g l h)
-
-pub putting-same : (f g : Entry → Bool) (x : Entry) (l : List Entry) → ((e : Entry) → f e ≡ g e) → putting f x l ≡ putting g x l
-putting-same f g x [] h = refl
-putting-same f g x (e ∷ l) h = rw (h e, putting-same f g x l h)
-
--- of nobody
-pub first-none : (l : List Entry) → first (λ (e : Entry). false) l ≡ none
-first-none [] = refl
-first-none (e ∷ l) = first-none l
-
-pub first-find : (id : Text) (l : List Entry) → first (λ (e : Entry). same (e .identity .bytes) id) l ≡ find id l
-first-find id [] = refl
-first-find id (e ∷ l) = ap (cond (same (e .identity .bytes) id) (some e)) (first-find id l)
-
-putting-put : (id : Text) (x : Entry) (l : List Entry) → putting (λ (e : Entry). same (e .identity .bytes) id) x l ≡ put id x l
-putting-put id x [] = refl
-putting-put id x (e ∷ l) = ap (λ (m : List Entry). cond (same (e .identity .bytes) id) (x ∷ l) (e ∷ m)) (putting-put id x l)
-
-module _ (own id : Text) where
-  -- a slot is sought by the partner's identity
-  pub sought-named : is-name id ≡ true → (e : Entry) → is-sought (at-partner own id) e ≡ same (e .identity .bytes) (filled id)
-  unfolding is-sought is-theirs
-  sought-named h e = ap (λ (b : Bool). b && same (e .identity .bytes) (filled id)) h
-
-  pub sought-unnamed : is-name id ≡ false → (e : Entry) → is-sought (at-partner own id) e ≡ false
-  unfolding is-sought is-theirs
-  sought-unnamed h e = ap (λ (b : Bool). b && same (e .identity .bytes) (filled id)) h
+use Rattle.row.proofs.Acting.{gives-3, gives-0, act-refused, act-turned}
 
 -- ---- ends
 
@@ -112,20 +71,19 @@ module _ (own : Text) (slots : List Entry) where
         hit : (e : Entry) → is-name id ≡ true → find (filled id) slots ≡ some e
             → Ends a (act own a (survey a slots) q text room) (every.turned (table own slots) id f (some e))
         hit e n h =
-            let s : (x : Entry) → is-sought a x ≡ same (x .identity .bytes) (filled id) = sought-named own id n in
-            let k = survey-found a slots e (first-same _ _ slots s ∙ first-find (filled id) slots ∙ h) in
+            let k = survey-found a slots e (first-named own id slots n ∙ h) in
             let g = gives-0 a (survey a slots) (q .act) room good roomy refl (k .there) in
             let l = held-legal (table own slots) id e lawful (held (table own slots) id e n h) in
             let r : act own a (survey a slots) q text room ≡ f e = act-turned own a (survey a slots) q text room 0 g refl
             ∙ ap (λ (x : Entry). turns.act q own x room text) (k .entry) ∙ turning e l in (
               ap (λ (r : Turn). r .outcome) r,
               ap (λ (r : Turn). set slots (survey a slots .at) (r .entry)) r ∙ k .puts (f e .entry)
-                  ∙ putting-same _ _ (f e .entry) slots s ∙ putting-put (filled id) (f e .entry) slots,
+                  ∙ putting-named own id slots n (f e .entry),
             )
 
         by-entry : is-name id ≡ true → (o : Option Entry) → find (filled id) slots ≡ o
             → Ends a (act own a (survey a slots) q text room) (every.turned (table own slots) id f o)
-        by-entry n none h = missed (first-same _ _ slots (sought-named own id n) ∙ first-find (filled id) slots ∙ h)
+        by-entry n none h = missed (first-named own id slots n ∙ h)
         by-entry n (some e) h = hit e n h
 
         by-name : (b : Bool) → is-name id ≡ b
@@ -136,4 +94,4 @@ module _ (own : Text) (slots : List Entry) where
         by-name false n =
             subst (λ (o : Option Entry). Ends a (act own a (survey a slots) q text room) (every.turned (table own slots) id f o))
             (sym (if-false (is-name id) _ _ n))
-            (missed (first-same _ _ slots (sought-unnamed own id n) ∙ first-none slots))
+            (missed (first-unnamed own id slots n))

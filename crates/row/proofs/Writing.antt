@@ -23,8 +23,9 @@ use Rattle.calls.proofs.Tests.{if-true, if-false}
 use Rattle.calls.proofs.Tables.{legal-parts}
 use Rattle.outcome.specs.declared.Report.{Report}
 use Rattle.outcome.specs.Report.{report, replied}
+use Rattle.sight.specs.Table.{table, row-legal}
 use Rattle.row.specs.Stored.{filled, front, size, put-slots, laid, fronted, write-answer, write-report}
-use Rattle.row.specs.Calls.{table, row-legal, written}
+use Rattle.row.specs.Calls.{written}
 use Rattle.row.proofs.Laying.{put-behind}
 
 -- the image has that size

@@ -16,8 +16,8 @@ use Rattle.outcome.specs.Acts as turns
 use Rattle.outcome.specs.declared.Act.{Act}
 use Rattle.outcome.specs.declared.Asked.{Asked}
 use Rattle.outcome.specs.declared.Act.the-variants.{Receive, BuildKsm, BuildRsi, GiveUp, Remove}
-use Rattle.row.specs.declared.aims.Aim.{Aim}
-use Rattle.row.specs.declared.sight.Sight.{Sight}
+use Rattle.sight.specs.declared.aims.Aim.{Aim}
+use Rattle.sight.specs.declared.Sight.{Sight}
 
 -- ---- what is asked; where no KSM is, its request is zero throughout
 

@@ -1,6 +1,6 @@
 -- The calls over a lent row: those of crate `calls` on the table of our identity and the row's slots; 13 where our identity is
 -- no name.
-use mathlib.Core.Bool.{Bool, not, cond, _&&_}
+use mathlib.Core.Bool.{not}
 use mathlib.Core.List.{List}
 use mathlib.Core.Option.{Option, none, some}
 use Prim.Native.Nat.{ℕ}
@@ -8,22 +8,14 @@ use lib.Dec.{eqb, ltb}
 use lib.ListN.{length}
 use Rattle.octets.specs.Text.{Text, is-name}
 use Rattle.partner.specs.declared.Entry.{Entry}
-use Rattle.partner.specs.Entry.{empty, filled}
-use Rattle.image.specs.Table.{Table, legal}
+use Rattle.partner.specs.Entry.{empty}
+use Rattle.image.specs.Table.{Table}
 use Rattle.image.specs.Image.{encode, decode}
 use Rattle.calls.specs.Words.{if_then_else_}
 use Rattle.calls.specs.Outcome.{Outcome, Told, nothing, service, keys, confirmation, failure, shown as showing, refusal, success}
 use Rattle.calls.specs.Calls as every
-use Rattle.row.specs.declared.sight.Sight.{Sight}
-use Rattle.row.specs.declared.sight.Found.{Found}
-
--- the table of a row
-abbrev pub table : Text → List Entry → Table
-table own slots = record { own = filled own; slots = slots }
-
--- our identity is a name, and the table is legal
-unfoldable pub row-legal : Text → List Entry → Bool
-row-legal own slots = is-name own && legal (table own slots)
+use Rattle.sight.specs.declared.Found.{Found}
+use Rattle.sight.specs.Table.{table, row-legal}
 
 -- a call over a row
 unfoldable pub over : Text → List Entry → every.Call → every.After
@@ -44,15 +36,6 @@ shown-of o = record { answer = o .answer; entry = entry-told (o .told) }
 
 unfoldable pub asked : Text → List Entry → Text → Found
 asked own slots id = shown-of (over own slots (every.ask id) .outcome)
-
--- the same of what is seen of a row
-abbrev pub shown-at : ℕ → Entry → Found
-shown-at n e = record { answer = n; entry = e }
-
-unfoldable pub shown : Sight → Found
-shown s =
-    cond (not (s .legal)) (shown-at 13 empty)
-    (cond (not (s .there)) (shown-at 3 empty) (shown-at 0 (s .entry)))
 
 -- ---- start and image reading
 

@@ -12,7 +12,8 @@ use Rattle.image.specs.Table.{Table, legal, AllHeld}
 use Rattle.image.specs.Image.{encode, decode}
 use Rattle.calls.specs.Calls.{Call, run, refuse}
 use Rattle.outcome.specs.Report.{report, replied}
-use Rattle.row.specs.Calls.{table, over, read-row, written}
+use Rattle.sight.specs.Table.{table}
+use Rattle.row.specs.Calls.{over, read-row, written}
 
 pub record Claims : Type 0 where
   -- the two faces agree: on the row of an image's table every call gives the answer, the reply and the table that it

@@ -1,5 +1,3 @@
-pub mod Aim
-pub mod Sight
 pub mod Acts
 pub mod Calls
 pub mod Stored

@@ -3,8 +3,6 @@ ghost use mathlib.Core.Path.{_≡_};
 ghost use lib.ListN.{length};
 ghost use Rattle.outcome.specs.Report as report;
 ghost use Rattle.row.specs.Acts as acts;
-use crate::aims::Aim;
-use crate::sight::Sight;
 use calls::KeyRequest;
 use calls::Request;
 use keying::Top;
@@ -15,6 +13,8 @@ use outcome::Telling;
 use outcome::Turned;
 use partner::Entry;
 use partner::Name;
+use sight::Sight;
+use sight::aims::Aim;
 
 // No request.
 fn no_request() -> Request

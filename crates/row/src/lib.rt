@@ -5,16 +5,14 @@ ghost use Rattle.partner.specs.Entry.{empty};
 ghost use Rattle.image.specs.Table.{identities, differs};
 ghost use Rattle.calls.specs.Calls as every;
 ghost use Rattle.outcome.specs.Report as report;
-ghost use Rattle.row.specs.Sight as sights;
+ghost use Rattle.sight.specs.Sight as sights;
+ghost use Rattle.sight.specs.Table.{row-legal};
 ghost use Rattle.row.specs.Calls as calls;
 ghost use Rattle.row.specs.Stored as stored;
 
 mod acts;
-mod aims;
-mod sight;
 mod stored;
 
-use aims::Aim;
 use calls::Request;
 use keying::Top;
 use outcome::Report;
@@ -22,6 +20,8 @@ use outcome::Turned;
 use partner::Entry;
 pub use sight::Found;
 use sight::Sight;
+use sight::aims;
+use sight::aims::Aim;
 
 // The entry of a slot; an empty one past the end.
 pub fn look_up(row: &[Entry], at: usize) -> Entry
@@ -71,7 +71,7 @@ fn survey(row: &[Entry], aim: Aim) -> Sight
 
 // Whether our identity is a name and the row is legal: what every call but start and image reading tests before all else.
 pub fn legal(row: &[Entry], own: &[u8]) -> bool
-    ensures { λ r. ⌜ r ≡ calls.row-legal (now (own .entry)) (now (row .entry)) ⌝ }
+    ensures { λ r. ⌜ r ≡ row-legal (now (own .entry)) (now (row .entry)) ⌝ }
 {
     let seen = survey(row, aims::ours(own));
     sight::is_legal(seen)

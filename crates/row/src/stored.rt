@@ -98,7 +98,7 @@ pub fn slot_length(e: Entry) -> usize
     ensures { λ r. ⌜ r ≡ length (slot-bytes e) ⌝ }
     ensures { λ r. ⌜ r ≤ 157 ⌝ }
 {
-    if crate::sight::is_empty(e) { 1 } else { 157 }
+    if sight::is_empty(e) { 1 } else { 157 }
 }
 
 // A slot's record at the front of what is left: one byte 0, or 2 and the entry's 156 bytes.
@@ -106,7 +106,7 @@ fn put_record(rest: &mut [u8], e: Entry) -> usize
     requires { ⌜ length (slot-bytes e) ≤ length (now rest) ⌝ }
     ensures { λ r. ⌜ Wrote (slot-bytes e) (now (rest .entry)) (now (rest .exit)) r ⌝ }
 {
-    if crate::sight::is_empty(e) {
+    if sight::is_empty(e) {
         return octets::fill(rest, 1, 0);
     }
     let a = octets::fill(rest, 1, 2);

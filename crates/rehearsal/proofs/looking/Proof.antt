@@ -45,8 +45,8 @@ use Rattle.partner.specs.declared.Entry.{Entry}
 use Rattle.outcome.proofs.Report as Rep
 use Rattle.outcome.proofs.Report.Laws as Rep′
 use Rattle.partner.proofs.Entry as T
-use Rattle.row.proofs.sight.Found as Fo
-use Rattle.row.proofs.sight.Found.Laws as Fo′
+use Rattle.sight.proofs.Found as Fo
+use Rattle.sight.proofs.Found.Laws as Fo′
 use Rattle.row.proofs.ask as ask′
 use Rattle.row.proofs.legal as legal′
 use Rattle.rehearsal.proofs.print.found as found′

@@ -52,18 +52,18 @@ use Rattle.octets.specs.Text.{Text, same}
 use Rattle.partner.specs.declared.Entry.{Entry}
 use Rattle.partner.specs.Entry.{empty}
 use Rattle.image.specs.Table.{is-empty, identities, differs}
-use Rattle.row.specs.Sight.{differ}
+use Rattle.sight.specs.Sight.{differ}
 use Rattle.partner.proofs.Entry as T
 use Rattle.partner.proofs.Entry.Laws as T′
 use Rattle.row.proofs.Walk.{hears}
-use Rattle.row.proofs.look_up as look
+use Rattle.row.proofs.Looking.{LookUp, to-look, asks-look, said-look}
 use Rattle.row.proofs.look_up.Symbol as look-def
 use Rattle.row.proofs.look_up.Symbol.{name as #row·look-up}
 use Rattle.row.proofs.look_up.Met as look-thm
-use Rattle.row.proofs.sight.differ as differ′
-use Rattle.row.proofs.sight.differ.Symbol as differ-def
-use Rattle.row.proofs.sight.differ.Symbol.{name as #row·differ}
-use Rattle.row.proofs.sight.differ.Met as differ-thm
+use Rattle.sight.proofs.differ as differ′
+use Rattle.sight.proofs.differ.Symbol as differ-def
+use Rattle.sight.proofs.differ.Symbol.{name as #sight·differ}
+use Rattle.sight.proofs.differ.Met as differ-thm
 use Rattle.row.proofs.apart.Key.{name as #row·apart}
 use Rattle.row.proofs.apart as F
 use Rattle.row.proofs.apart.Statement as stated
@@ -104,7 +104,7 @@ record St (f : ℕ) (e : Entry) (ys : List Entry) : Type 0 where
 -- the last statements of a turn
 abbrev tested : Body
 tested = seq (call #row·look-up (copy (place 1 []) ∷ copy (place 5 []) ∷ []) (place 8 []))
-    (seq (call #row·differ (copy (place 4 []) ∷ copy (place 3 []) ∷ copy (place 8 []) ∷ []) (place 4 []))
+    (seq (call #sight·differ (copy (place 4 []) ∷ copy (place 3 []) ∷ copy (place 8 []) ∷ []) (place 4 []))
     (assign (place 5 []) (op2 (add unsigned) (copy (place 5 [])) (int w64 1))))
 
 abbrev R : RattleType
@@ -123,10 +123,7 @@ abbrev slice : Ty
 slice = sliceTy (tyRef (named 0) imm (pointee (R .written)))
 
 module _ {M : Type 1} (𝓤 : URA M) (H : Heap 𝓤) (A : Atoms 𝓤) (mem : Memory → SProp 𝓤) (run : Routine → Fun 𝓤) where
-  -- the contracts that the proof cites
-  abbrev LookUp : Contract 𝓤
-  LookUp = tripleOf 𝓤 H A look.signature (look.spec 𝓤 H A mem run)
-
+  -- the contract that the proof cites beside that of `look_up`
   abbrev Differ : Contract 𝓤
   Differ = tripleOf 𝓤 H A differ′.signature (differ′.spec 𝓤 H A mem run)
 
@@ -164,15 +161,6 @@ module _ {M : Type 1} (𝓤 : URA M) (H : Heap 𝓤) (A : Atoms 𝓤) (W : Given
       owned ! Boolean (Is Boolean) (bool-makes 𝓤 H A W) t _ refl $ done !
 
   -- ---- what the callees are passed
-  abbrev to-look : ℕ → LookUp 𝓤 H A mem run .Ghost
-  to-look j = (((κ, tt), (q, tt), tt, (row, (j, tt)), (v ∷ [], (vint w64 j ∷ [], tt))), tt)
-
-  asks-look : (j : ℕ) → j < 2 ^ 64 → ent 𝓤 (⋆ 𝓤 H A ((‵ (flft κ q) ⊛ ‵ ftrue) ∷ ‵ Own ∷ [])) (LookUp 𝓤 H A mem run .pre (to-look j))
-  asks-look j gj = qed W ((‵ (flft κ q) ⊛ ‵ ftrue) ∷ ‵ Own ∷ []) ∵ nothing ! $ owned ! usize (Is usize) (uint-makes 𝓤 H A W w64) j _ (refl, gj) $ fjoin ! $ move ! (2 ∷ 0 ∷ []) $ fjoin ! $ move ! (1 ∷ 0 ∷ []) $ join ! $ frame ! $ done !
-
-  said-look : (j : ℕ) (r : Entry) → ent 𝓤 (ensured 𝓤 H A look.ended (look.clauses 𝓤 H A mem run) (κ, tt) (row, (j, tt)) tt r) (fact 𝓤 (r ≡ getD ys j empty))
-  said-look j r = exE 𝓤 _ (λ ws. snd∗ 𝓤 (sem 𝓤 H A (lasts look.ended (κ, tt) (row, (j, tt)) ws)) (fact 𝓤 (r ≡ getD ys j empty)))
-
   abbrev to-differ : Bool → Entry → Val → Differ 𝓤 H A mem run .Ghost
   to-differ s r u = ((tt, tt, tt, (s, (e, (r, tt))), (vbool s ∷ [], (mach ∷ [], (u ∷ [], tt)))), tt)
 
@@ -182,7 +170,7 @@ module _ {M : Type 1} (𝓤 : URA M) (H : Heap 𝓤) (A : Atoms 𝓤) (W : Given
   said-differ : (s : Bool) (r : Entry) (t : Bool) → ent 𝓤 (ensured 𝓤 H A differ′.ended (differ′.clauses 𝓤 H A mem run) tt (s, (e, (r, tt))) tt t) (fact 𝓤 (t ≡ s && differ e r))
   said-differ s r t = exE 𝓤 _ (λ ws. snd∗ 𝓤 (sem 𝓤 H A (lasts differ′.ended tt (s, (e, (r, tt))) ws)) (fact 𝓤 (t ≡ s && differ e r)))
 
-  module _ (𝓣 : Tables 𝓤 H) (fm : FmC 𝓤 H (W .laws) (𝓣 .C)) (known-l : Triple 𝓤 (𝓣 .C #row·look-up) (LookUp 𝓤 H A mem run)) (known-d : Triple 𝓤 (𝓣 .C #row·differ) (Differ 𝓤 H A mem run))
+  module _ (𝓣 : Tables 𝓤 H) (fm : FmC 𝓤 H (W .laws) (𝓣 .C)) (known-l : Triple 𝓤 (𝓣 .C #row·look-up) (LookUp 𝓤 H A mem run)) (known-d : Triple 𝓤 (𝓣 .C #sight·differ) (Differ 𝓤 H A mem run))
       (gn : Room R n) (gf : f < 2 ^ 64) (g : Is R e (mach ∷ [])) (l₀ l₁ l₂ l₃ l₄ l₅ l₆ l₇ l₈ : ℕ) where
     abbrev En : Env 𝓤 H
     En = (tyBool, l₀) ∷ (slice, l₁) ∷ (word, l₂) ∷ (T′.mir, l₃) ∷ (tyBool, l₄) ∷ (word, l₅) ∷ (word, l₆) ∷ (tyBool, l₇) ∷ (T′.mir, l₈) ∷ []
@@ -210,9 +198,9 @@ module _ {M : Type 1} (𝓤 : URA M) (H : Heap 𝓤) (A : Atoms 𝓤) (W : Given
         let fi : s .i < 2 ^ 64 = s .fits in
         let nf : s .i + 1 < 2 ^ 64 = omega (arith, gn .0) in
         use1 W (‵ Own ⊛ ‵ Own) (shr-slice-copy 𝓤 H A W (named 0) κ R .twice row (v ∷ [])) $ split ! $ move ! (20 ∷ 0 ∷ []) $
-        use2 W (raw (LookUp 𝓤 H A mem run .pre (to-look (s .i)))) (asks-look (s .i) fi) $
-        calls-at ! fm (LookUp 𝓤 H A mem run) known-l (to-look (s .i)) (and-then ! (load ! (from ! (stop !)) (look ! 16 refl)) (and-then ! (load ! (from ! (stop !)) (look ! 8 refl)) (no-more !))) (λ u.
-        hears ! tt R (‵ (flft κ q) ⊛ ‵ ftrue) _ (λ r. r ≡ getD ys (s .i) empty) (said-look (s .i)) u (id⊢ 𝓤 _) (λ r er ir.
+        use2 W (raw (LookUp 𝓤 H A mem run .pre (to-look 𝓤 H A mem run κ q row (s .i)))) (asks-look 𝓤 H A mem run κ q row W (s .i) fi) $
+        calls-at ! fm (LookUp 𝓤 H A mem run) known-l (to-look 𝓤 H A mem run κ q row (s .i)) (and-then ! (load ! (from ! (stop !)) (look ! 16 refl)) (and-then ! (load ! (from ! (stop !)) (look ! 8 refl)) (no-more !))) (λ u.
+        hears ! tt R (‵ (flft κ q) ⊛ ‵ ftrue) _ (λ r. r ≡ getD ys (s .i) empty) (said-look 𝓤 H A mem run κ q row (s .i)) u (id⊢ 𝓤 _) (λ r er ir.
         land ! (from ! (stop !)) (init ! 2 refl (LL.lawful T.the-type T′.the-laws 𝓤 H A W .typed r _ ir .0)) $
         use0 W (raw (Differ 𝓤 H A mem run .pre (to-differ (s .t) r u))) (asks-differ g (s .t) r u ir) $
         calls-at ! fm (Differ 𝓤 H A mem run) known-d (to-differ (s .t) r u) (and-then ! (load ! (from ! (stop !)) (look ! 11 refl)) (and-then ! (load ! (from ! (stop !)) (look ! 13 refl)) (and-then ! (load ! (from ! (stop !)) (look ! 3 refl)) (no-more !)))) (λ w.
@@ -249,7 +237,7 @@ module _ {M : Type 1} (𝓤 : URA M) (H : Heap 𝓤) (A : Atoms 𝓤) (W : Given
         keep ! (0 ∷ 1 ∷ 2 ∷ 3 ∷ 4 ∷ 5 ∷ 6 ∷ 7 ∷ 8 ∷ 9 ∷ 10 ∷ 11 ∷ 12 ∷ 13 ∷ 14 ∷ 15 ∷ 16 ∷ 17 ∷ 18 ∷ 19 ∷ []) $ by ! searched
 
   -- the locals are allocated and the arguments stored
-  walk : (𝓣 : Tables 𝓤 H) → FmC 𝓤 H (W .laws) (𝓣 .C) → Triple 𝓤 (𝓣 .C #row·look-up) (LookUp 𝓤 H A mem run) → Triple 𝓤 (𝓣 .C #row·differ) (Differ 𝓤 H A mem run) → Room R n → f < 2 ^ 64 → Is R e (mach ∷ [])
+  walk : (𝓣 : Tables 𝓤 H) → FmC 𝓤 H (W .laws) (𝓣 .C) → Triple 𝓤 (𝓣 .C #row·look-up) (LookUp 𝓤 H A mem run) → Triple 𝓤 (𝓣 .C #sight·differ) (Differ 𝓤 H A mem run) → Room R n → f < 2 ^ 64 → Is R e (mach ∷ [])
       → ent 𝓤 (onEntry 𝓤 H A F.signature (κ, tt) (q, tt) x at) (WpFn 𝓤 H (𝓣 .C) (𝓣 .Λ) code.function (v ∷ vint w64 f ∷ mach ∷ []) Post′)
   walk 𝓣 fm known-l known-d gn gf g =
       qed W ((‵ (flft κ q) ⊛ ‵ ftrue) ∷ ‵ (owns (ShrSlice (named 0) κ R ∷ usize ∷ R ∷ []) x at) ∷ []) ∵ enter ! (𝓣 .C) (𝓣 .Λ) code.function (v ∷ vint w64 f ∷ mach ∷ []) _ $
@@ -258,7 +246,7 @@ module _ {M : Type 1} (𝓤 : URA M) (H : Heap 𝓤) (A : Atoms 𝓤) (W : Given
       pass1 ! (init ! 10 refl (LL.lawful T.the-type T′.the-laws 𝓤 H A W .typed e _ g .0)) $ pass0 ! $
       keep ! (0 ∷ 1 ∷ 2 ∷ 3 ∷ 4 ∷ 5 ∷ 6 ∷ 7 ∷ 8 ∷ 9 ∷ 10 ∷ 11 ∷ 12 ∷ 13 ∷ 14 ∷ 15 ∷ 16 ∷ 17 ∷ 18 ∷ 19 ∷ []) $ body 𝓣 fm known-l known-d gn gf g l₀ l₁ l₂ l₃ l₄ l₅ l₆ l₇ l₈)))))))))
 
-module _ {M : Type 1} (𝓤 : URA M) (H : Heap 𝓤) (A : Atoms 𝓤) (W : Given 𝓤 H A) (mem : Memory → SProp 𝓤) (run : Routine → Fun 𝓤) (𝓣 : Tables 𝓤 H) (known-l : Triple 𝓤 (𝓣 .C #row·look-up) (LookUp 𝓤 H A mem run)) (known-d : Triple 𝓤 (𝓣 .C #row·differ) (Differ 𝓤 H A mem run)) where
+module _ {M : Type 1} (𝓤 : URA M) (H : Heap 𝓤) (A : Atoms 𝓤) (W : Given 𝓤 H A) (mem : Memory → SProp 𝓤) (run : Routine → Fun 𝓤) (𝓣 : Tables 𝓤 H) (known-l : Triple 𝓤 (𝓣 .C #row·look-up) (LookUp 𝓤 H A mem run)) (known-d : Triple 𝓤 (𝓣 .C #sight·differ) (Differ 𝓤 H A mem run)) where
   apart-walks : Walks 𝓤 H A F.ended stayed (WpFn 𝓤 H (𝓣 .C) (𝓣 .Λ) code.function) (F.clauses 𝓤 H A mem run)
   apart-walks = walked 𝓤 H A F.ended stayed (F.clauses 𝓤 H A mem run) (WpFn 𝓤 H (𝓣 .C) (𝓣 .Λ) code.function) (λ κs. (slice-vals, (uint-vals w64, (LL.vals T.the-type T′.the-laws, tt)))) (λ κs. (shr-slice-tells (named 0) (κs .0) R, (uint-tells w64, (LL.tells T.the-type T′.the-laws, tt))))
       (λ κs qs bounds a g are. via 𝓤 _ (fst∗ 𝓤 _ (emp 𝓤))
@@ -274,4 +262,4 @@ apart-spec 𝓤 H 𝓜 𝓖 𝓡 =
     (tables 𝓤 H 𝓜 𝓡 code.env .C) (tables 𝓤 H 𝓜 𝓡 code.env .Λ) #row·apart code.function (code.unfolded 𝓤 H 𝓜 𝓡)
     (apart-meets 𝓤 H (𝓖 .A) (givenOf 𝓤 H 𝓜 𝓖) (𝓜 .mem) (𝓡 .run) (tablesOf 𝓤 H 𝓜 (tables 𝓤 H 𝓜 𝓡 code.env))
     (cited 𝓤 H (LookUp 𝓤 H (𝓖 .A) (𝓜 .mem) (𝓡 .run)) 𝓜 𝓡 code.env #row·look-up look-def.routine code.calls-row·look-up (look-thm.met 𝓤 H 𝓜 𝓖 𝓡))
-    (cited 𝓤 H (Differ 𝓤 H (𝓖 .A) (𝓜 .mem) (𝓡 .run)) 𝓜 𝓡 code.env #row·differ differ-def.routine code.calls-row·sight·differ (differ-thm.met 𝓤 H 𝓜 𝓖 𝓡)))
+    (cited 𝓤 H (Differ 𝓤 H (𝓖 .A) (𝓜 .mem) (𝓡 .run)) 𝓜 𝓡 code.env #sight·differ differ-def.routine code.calls-sight·differ (differ-thm.met 𝓤 H 𝓜 𝓖 𝓡)))

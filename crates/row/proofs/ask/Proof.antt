@@ -36,34 +36,34 @@ use denote.Triple.Walked.{says, Stays, stay-none-slice, walkOf, goes-none-slice,
 use denote.Triple.Clauses.{ensured, lasts}
 use denote.Exit.{yes}
 use Rattle.partner.specs.declared.Entry.{Entry}
-use Rattle.row.specs.declared.aims.Aim.{Aim}
-use Rattle.row.specs.declared.sight.Sight.{Sight}
-use Rattle.row.specs.declared.sight.Found.{Found}
-use Rattle.row.specs.Aim.{at-partner}
-use Rattle.row.specs.Sight.{survey}
-use Rattle.row.specs.Calls.{shown, asked}
+use Rattle.sight.specs.declared.aims.Aim.{Aim}
+use Rattle.sight.specs.declared.Sight.{Sight}
+use Rattle.sight.specs.declared.Found.{Found}
+use Rattle.sight.specs.Aim.{at-partner}
+use Rattle.sight.specs.Sight.{survey, shown}
+use Rattle.row.specs.Calls.{asked}
 use Rattle.partner.proofs.Entry as T
 use Rattle.partner.proofs.Entry.Laws as T′
-use Rattle.row.proofs.aims.Aim as N
-use Rattle.row.proofs.aims.Aim.Laws as N′
-use Rattle.row.proofs.sight.Sight as Z
-use Rattle.row.proofs.sight.Sight.Laws as Z′
-use Rattle.row.proofs.sight.Found as Y
-use Rattle.row.proofs.sight.Found.Laws as Y′
+use Rattle.sight.proofs.aims.Aim as N
+use Rattle.sight.proofs.aims.Aim.Laws as N′
+use Rattle.sight.proofs.Sight as Z
+use Rattle.sight.proofs.Sight.Laws as Z′
+use Rattle.sight.proofs.Found as Y
+use Rattle.sight.proofs.Found.Laws as Y′
 use Rattle.row.proofs.Walk.{hears}
 use Rattle.row.proofs.Asking.{asked-is}
-use Rattle.row.proofs.aims.at_partner as at-partner′
-use Rattle.row.proofs.aims.at_partner.Symbol as at-partner-def
-use Rattle.row.proofs.aims.at_partner.Symbol.{name as #row·at-partner}
-use Rattle.row.proofs.aims.at_partner.Met as at-partner-thm
+use Rattle.sight.proofs.aims.at_partner as at-partner′
+use Rattle.sight.proofs.aims.at_partner.Symbol as at-partner-def
+use Rattle.sight.proofs.aims.at_partner.Symbol.{name as #sight·at-partner}
+use Rattle.sight.proofs.aims.at_partner.Met as at-partner-thm
 use Rattle.row.proofs.survey as survey′
 use Rattle.row.proofs.survey.Symbol as survey-def
 use Rattle.row.proofs.survey.Symbol.{name as #row·survey}
 use Rattle.row.proofs.survey.Met as survey-thm
-use Rattle.row.proofs.sight.shown as shown′
-use Rattle.row.proofs.sight.shown.Symbol as shown-def
-use Rattle.row.proofs.sight.shown.Symbol.{name as #row·shown}
-use Rattle.row.proofs.sight.shown.Met as shown-thm
+use Rattle.sight.proofs.shown as shown′
+use Rattle.sight.proofs.shown.Symbol as shown-def
+use Rattle.sight.proofs.shown.Symbol.{name as #sight·shown}
+use Rattle.sight.proofs.shown.Met as shown-thm
 use Rattle.row.proofs.ask.Key.{name as #row·ask}
 use Rattle.row.proofs.ask as F
 use Rattle.row.proofs.ask.Statement as stated
@@ -105,9 +105,9 @@ module _ {M : Type 1} (𝓤 : URA M) (H : Heap 𝓤) (A : Atoms 𝓤) (mem : Mem
   Shown = tripleOf 𝓤 H A shown′.signature (shown′.spec 𝓤 H A mem run)
 
 record Known {M : Type 1} (𝓤 : URA M) (H : Heap 𝓤) (A : Atoms 𝓤) (mem : Memory → SProp 𝓤) (run : Routine → Fun 𝓤) (C : Calls 𝓤 H) : Type 2 where
-  pub at-partner : Triple 𝓤 (C #row·at-partner) (AtPartner 𝓤 H A mem run)
+  pub at-partner : Triple 𝓤 (C #sight·at-partner) (AtPartner 𝓤 H A mem run)
   pub survey : Triple 𝓤 (C #row·survey) (Survey 𝓤 H A mem run)
-  pub shown : Triple 𝓤 (C #row·shown) (Shown 𝓤 H A mem run)
+  pub shown : Triple 𝓤 (C #sight·shown) (Shown 𝓤 H A mem run)
 
 module _ {M : Type 1} (𝓤 : URA M) (H : Heap 𝓤) (A : Atoms 𝓤) (W : Given 𝓤 H A) (mem : Memory → SProp 𝓤) (run : Routine → Fun 𝓤) (κ₀ κ₁ κ₂ : Lft) (q₀ q₁ q₂ : Share)
     (s₀ : RefT (List Entry)) (s₁ s₂ : RefT (List ℕ)) where
@@ -225,7 +225,7 @@ ask-spec 𝓤 H 𝓜 𝓖 𝓡 =
     entered 𝓤 H (tripleOf 𝓤 H (𝓖 .A) F.signature (F.spec 𝓤 H (𝓖 .A) (𝓜 .mem) (𝓡 .run)))
     (tables 𝓤 H 𝓜 𝓡 code.env .C) (tables 𝓤 H 𝓜 𝓡 code.env .Λ) #row·ask code.function (code.unfolded 𝓤 H 𝓜 𝓡)
     (ask-meets 𝓤 H (𝓖 .A) (givenOf 𝓤 H 𝓜 𝓖) (𝓜 .mem) (𝓡 .run) (tablesOf 𝓤 H 𝓜 (tables 𝓤 H 𝓜 𝓡 code.env)) (record {
-      at-partner = cited 𝓤 H (AtPartner 𝓤 H (𝓖 .A) (𝓜 .mem) (𝓡 .run)) 𝓜 𝓡 code.env #row·at-partner at-partner-def.routine code.calls-row·aims·at-partner (at-partner-thm.met 𝓤 H 𝓜 𝓖 𝓡);
+      at-partner = cited 𝓤 H (AtPartner 𝓤 H (𝓖 .A) (𝓜 .mem) (𝓡 .run)) 𝓜 𝓡 code.env #sight·at-partner at-partner-def.routine code.calls-sight·aims·at-partner (at-partner-thm.met 𝓤 H 𝓜 𝓖 𝓡);
       survey = cited 𝓤 H (Survey 𝓤 H (𝓖 .A) (𝓜 .mem) (𝓡 .run)) 𝓜 𝓡 code.env #row·survey survey-def.routine code.calls-row·survey (survey-thm.met 𝓤 H 𝓜 𝓖 𝓡);
-      shown = cited 𝓤 H (Shown 𝓤 H (𝓖 .A) (𝓜 .mem) (𝓡 .run)) 𝓜 𝓡 code.env #row·shown shown-def.routine code.calls-row·sight·shown (shown-thm.met 𝓤 H 𝓜 𝓖 𝓡);
+      shown = cited 𝓤 H (Shown 𝓤 H (𝓖 .A) (𝓜 .mem) (𝓡 .run)) 𝓜 𝓡 code.env #sight·shown shown-def.routine code.calls-sight·shown (shown-thm.met 𝓤 H 𝓜 𝓖 𝓡);
     }))

@@ -45,21 +45,21 @@ use denote.Exit.{yes}
 use Rattle.octets.specs.Text.{Text}
 use Rattle.outcome.specs.Report.{turned, replied, report}
 use Rattle.calls.specs.Calls as every
-use Rattle.row.specs.Aim.{at-partner}
-use Rattle.row.specs.Sight.{survey}
+use Rattle.sight.specs.Aim.{at-partner}
+use Rattle.sight.specs.Sight.{survey}
 use Rattle.row.specs.Acts as acts
 use Rattle.row.specs.Calls.{over}
 use Rattle.row.proofs.Walk.{value, shared, unique, hears, hears-last, one-fact, both, says-all}
 use Rattle.row.proofs.Called.{call-ends}
-use Rattle.row.specs.declared.aims.Aim.{Aim}
+use Rattle.sight.specs.declared.aims.Aim.{Aim}
 use Rattle.outcome.specs.declared.Report.{Report}
 use Rattle.calls.specs.declared.Request.{Request}
 use Rattle.partner.specs.declared.Entry.{Entry}
 use Rattle.outcome.specs.declared.Turned.{Turned}
 use Rattle.outcome.specs.declared.Asked.{Asked}
-use Rattle.row.specs.declared.sight.Sight.{Sight}
-use Rattle.row.proofs.aims.Aim as N
-use Rattle.row.proofs.aims.Aim.Laws as N′
+use Rattle.sight.specs.declared.Sight.{Sight}
+use Rattle.sight.proofs.aims.Aim as N
+use Rattle.sight.proofs.aims.Aim.Laws as N′
 use Rattle.outcome.proofs.Report as Rep
 use Rattle.outcome.proofs.Report.Laws as Rep′
 use Rattle.calls.proofs.Request as Req
@@ -70,12 +70,12 @@ use Rattle.outcome.proofs.Turned as Tur
 use Rattle.outcome.proofs.Turned.Laws as Tur′
 use Rattle.outcome.proofs.Asked as Y
 use Rattle.outcome.proofs.Asked.Laws as Y′
-use Rattle.row.proofs.sight.Sight as Z
-use Rattle.row.proofs.sight.Sight.Laws as Z′
-use Rattle.row.proofs.aims.at_partner as at-partner′
-use Rattle.row.proofs.aims.at_partner.Symbol as at-partner-def
-use Rattle.row.proofs.aims.at_partner.Symbol.{name as #row·at-partner}
-use Rattle.row.proofs.aims.at_partner.Met as at-partner-thm
+use Rattle.sight.proofs.Sight as Z
+use Rattle.sight.proofs.Sight.Laws as Z′
+use Rattle.sight.proofs.aims.at_partner as at-partner′
+use Rattle.sight.proofs.aims.at_partner.Symbol as at-partner-def
+use Rattle.sight.proofs.aims.at_partner.Symbol.{name as #sight·at-partner}
+use Rattle.sight.proofs.aims.at_partner.Met as at-partner-thm
 use Rattle.row.proofs.survey as survey′
 use Rattle.row.proofs.survey.Symbol as survey-def
 use Rattle.row.proofs.survey.Symbol.{name as #row·survey}
@@ -128,7 +128,7 @@ module _ {M : Type 1} (𝓤 : URA M) (H : Heap 𝓤) (A : Atoms 𝓤) (mem : Mem
   Settle = tripleOf 𝓤 H A settle′.signature (settle′.spec 𝓤 H A mem run)
 
 record Known {M : Type 1} (𝓤 : URA M) (H : Heap 𝓤) (A : Atoms 𝓤) (mem : Memory → SProp 𝓤) (run : Routine → Fun 𝓤) (C : Calls 𝓤 H) : Type 2 where
-  pub at-partner : Triple 𝓤 (C #row·at-partner) (AtPartner 𝓤 H A mem run)
+  pub at-partner : Triple 𝓤 (C #sight·at-partner) (AtPartner 𝓤 H A mem run)
   pub survey : Triple 𝓤 (C #row·survey) (Survey 𝓤 H A mem run)
   pub key-message : Triple 𝓤 (C #row·key-message) (KeyMessage 𝓤 H A mem run)
   pub act : Triple 𝓤 (C #row·act) (Act 𝓤 H A mem run)
@@ -291,7 +291,7 @@ build-ksm-spec 𝓤 H 𝓜 𝓖 𝓡 =
     entered 𝓤 H (tripleOf 𝓤 H (𝓖 .A) F.signature (F.spec 𝓤 H (𝓖 .A) (𝓜 .mem) (𝓡 .run)))
     (tables 𝓤 H 𝓜 𝓡 code.env .C) (tables 𝓤 H 𝓜 𝓡 code.env .Λ) #row·build-ksm code.function (code.unfolded 𝓤 H 𝓜 𝓡)
     (build-ksm-meets 𝓤 H (𝓖 .A) (givenOf 𝓤 H 𝓜 𝓖) (𝓜 .mem) (𝓡 .run) (tablesOf 𝓤 H 𝓜 (tables 𝓤 H 𝓜 𝓡 code.env)) (record {
-      at-partner = cited 𝓤 H (AtPartner 𝓤 H (𝓖 .A) (𝓜 .mem) (𝓡 .run)) 𝓜 𝓡 code.env #row·at-partner at-partner-def.routine code.calls-row·aims·at-partner (at-partner-thm.met 𝓤 H 𝓜 𝓖 𝓡);
+      at-partner = cited 𝓤 H (AtPartner 𝓤 H (𝓖 .A) (𝓜 .mem) (𝓡 .run)) 𝓜 𝓡 code.env #sight·at-partner at-partner-def.routine code.calls-sight·aims·at-partner (at-partner-thm.met 𝓤 H 𝓜 𝓖 𝓡);
       survey = cited 𝓤 H (Survey 𝓤 H (𝓖 .A) (𝓜 .mem) (𝓡 .run)) 𝓜 𝓡 code.env #row·survey survey-def.routine code.calls-row·survey (survey-thm.met 𝓤 H 𝓜 𝓖 𝓡);
       key-message = cited 𝓤 H (KeyMessage 𝓤 H (𝓖 .A) (𝓜 .mem) (𝓡 .run)) 𝓜 𝓡 code.env #row·key-message key-message-def.routine code.calls-row·acts·key-message (key-message-thm.met 𝓤 H 𝓜 𝓖 𝓡);
       act = cited 𝓤 H (Act 𝓤 H (𝓖 .A) (𝓜 .mem) (𝓡 .run)) 𝓜 𝓡 code.env #row·act act-def.routine code.calls-row·acts·act (act-thm.met 𝓤 H 𝓜 𝓖 𝓡);

@@ -59,13 +59,13 @@ use Rattle.row.specs.Stored.{filled, put-slot, behind, laid}
 use Rattle.partner.proofs.Entry as T
 use Rattle.partner.proofs.Entry.Laws as T′
 use Rattle.row.proofs.Walk.{hears, hears-last, one-fact}
+use Rattle.row.proofs.Looking.{LookUp, to-look, said-look}
 use Rattle.row.proofs.Filling.{filled-within}
 use Rattle.row.proofs.Laying.{Laid, next-laid, all-laid}
 use Rattle.row.proofs.stored.filled as filled′
 use Rattle.row.proofs.stored.filled.Symbol as filled-def
 use Rattle.row.proofs.stored.filled.Symbol.{name as #row·filled}
 use Rattle.row.proofs.stored.filled.Met as filled-thm
-use Rattle.row.proofs.look_up as look′
 use Rattle.row.proofs.look_up.Symbol as look-def
 use Rattle.row.proofs.look_up.Symbol.{name as #row·look}
 use Rattle.row.proofs.look_up.Met as look-thm
@@ -99,12 +99,9 @@ abbrev stayed : Stays (F.ended .signature .params) (F.ended .kept)
 stayed = (stay-none-slice (0 ∷ []) tt (plain (λ _. R)) yes, (stay-slice (1 ∷ []) tt (plain (λ _. u8)), (stay-none (λ _. u32) yes, tt)))
 
 module _ {M : Type 1} (𝓤 : URA M) (H : Heap 𝓤) (A : Atoms 𝓤) (mem : Memory → SProp 𝓤) (run : Routine → Fun 𝓤) where
-  -- the contracts that the proof cites
+  -- the contracts that the proof cites beside that of `look_up`
   abbrev Filled : Contract 𝓤
   Filled = tripleOf 𝓤 H A filled′.signature (filled′.spec 𝓤 H A mem run)
-
-  abbrev LookUp : Contract 𝓤
-  LookUp = tripleOf 𝓤 H A look′.signature (look′.spec 𝓤 H A mem run)
 
   abbrev PutSlot : Contract 𝓤
   PutSlot = tripleOf 𝓤 H A put′.signature (put′.spec 𝓤 H A mem run)
@@ -161,14 +158,8 @@ module _ {M : Type 1} (𝓤 : URA M) (H : Heap 𝓤) (A : Atoms 𝓤) (W : Given
   said-filled : (r : ℕ) → ent 𝓤 (ensured 𝓤 H A filled′.ended (filled′.clauses 𝓤 H A mem run) tt (a, (n, tt)) tt r) (fact 𝓤 (r ≡ filled a n))
   said-filled r = exE 𝓤 _ (λ ws. snd∗ 𝓤 (sem 𝓤 H A (lasts filled′.ended tt (a, (n, tt)) ws)) (fact 𝓤 (r ≡ filled a n)))
 
-  abbrev to-look : ℕ → LookUp 𝓤 H A mem run .Ghost
-  to-look j = (((κ, tt), (q, tt), tt, (row, (j, tt)), (v ∷ [], (vint w64 j ∷ [], tt))), tt)
-
-  asks-look : (j : ℕ) → j < 2 ^ 64 → ent 𝓤 (⋆ 𝓤 H A (‵ (flft κ q) ∷ ‵ Own₀ ∷ [])) (LookUp 𝓤 H A mem run .pre (to-look j))
+  asks-look : (j : ℕ) → j < 2 ^ 64 → ent 𝓤 (⋆ 𝓤 H A (‵ (flft κ q) ∷ ‵ Own₀ ∷ [])) (LookUp 𝓤 H A mem run .pre (to-look 𝓤 H A mem run κ q row j))
   asks-look j gj = qed W (‵ (flft κ q) ∷ ‵ Own₀ ∷ []) ∵ nothing ! $ owned ! usize (Is usize) (uint-makes 𝓤 H A W w64) j _ (refl, gj) $ fjoin ! $ move ! (2 ∷ 0 ∷ []) $ fjoin ! $ nothing ! $ move ! (2 ∷ 0 ∷ []) $ join ! $ join ! $ frame ! $ done !
-
-  said-look : (j : ℕ) (r : Entry) → ent 𝓤 (ensured 𝓤 H A look′.ended (look′.clauses 𝓤 H A mem run) (κ, tt) (row, (j, tt)) tt r) (fact 𝓤 (r ≡ getD ys j empty))
-  said-look j r = exE 𝓤 _ (λ ws. snd∗ 𝓤 (sem 𝓤 H A (lasts look′.ended (κ, tt) (row, (j, tt)) ws)) (fact 𝓤 (r ≡ getD ys j empty)))
 
   abbrev to-put : (ν : ℕ) (δ : GName) (l : List ℕ) (t : ℕ) (e : Entry) (u : Val) → PutSlot 𝓤 H A mem run .Ghost
   to-put ν δ l t e u = (((ν ∷ [], tt), (fullShare, tt), tt, (again₁ l δ, (t, (e, tt))), (sliceVal (b, o) (length l) ∷ [], (vint w64 t ∷ [], (u ∷ [], tt)))), tt)
@@ -228,9 +219,9 @@ module _ {M : Type 1} (𝓤 : URA M) (H : Heap 𝓤) (A : Atoms 𝓤) (W : Given
           assigns ! (agg ! (and-then ! (load ! (from ! (stop !)) (look ! 9 refl)) (and-then ! (load ! (from ! (fld ! refl (stop !))) (look-in ! 23 (sub ! 1 refl (whole !)))) (no-more !)))) (from ! (stop !)) (init ! 7 refl (tt, (tt, (record { fits = g₁ .0 }, tt)))) $
           rewrite ! 7 (λ (k : ℕ). ‵ (fat fullShare (sliceTy (tyRef erased mut (tyInt w8))) l₁₀ 0 (sliceVal (b, o) k))) (sym (s .same-length)) refl $ move ! (4 ∷ []) $
           use1 W (‵ Own₀ ⊛ ‵ Own₀) (shr-slice-copy 𝓤 H A W (named 0) κ R .twice row (v ∷ [])) $ split ! $ move ! (4 ∷ 0 ∷ []) $
-          use2 W (raw (LookUp 𝓤 H A mem run .pre (to-look (s .i)))) (asks-look (s .i) fi) $
-          calls-at ! fm (LookUp 𝓤 H A mem run) (known .look) (to-look (s .i)) (and-then ! (load ! (from ! (stop !)) (look ! 25 refl)) (and-then ! (load ! (from ! (stop !)) (look ! 15 refl)) (no-more !))) (λ u.
-          hears ! tt R (‵ (flft κ q) ⊛ ‵ ftrue) _ (λ r. r ≡ getD ys (s .i) empty) (said-look (s .i)) u (id⊢ 𝓤 _) (λ e ee ie. split ! $ move ! (1 ∷ []) $ drop ! $
+          use2 W (raw (LookUp 𝓤 H A mem run .pre (to-look 𝓤 H A mem run κ q row (s .i)))) (asks-look (s .i) fi) $
+          calls-at ! fm (LookUp 𝓤 H A mem run) (known .look) (to-look 𝓤 H A mem run κ q row (s .i)) (and-then ! (load ! (from ! (stop !)) (look ! 25 refl)) (and-then ! (load ! (from ! (stop !)) (look ! 15 refl)) (no-more !))) (λ u.
+          hears ! tt R (‵ (flft κ q) ⊛ ‵ ftrue) _ (λ r. r ≡ getD ys (s .i) empty) (said-look 𝓤 H A mem run κ q row (s .i)) u (id⊢ 𝓤 _) (λ e ee ie. split ! $ move ! (1 ∷ []) $ drop ! $
           land ! (from ! (stop !)) (init ! 5 refl (LL.lawful T.the-type T′.the-laws 𝓤 H A W .typed e _ ie .0)) $ move ! (2 ∷ 3 ∷ 4 ∷ []) $
           keep ! (0 ∷ 1 ∷ 2 ∷ 3 ∷ 4 ∷ 5 ∷ 6 ∷ 7 ∷ 8 ∷ 9 ∷ 10 ∷ 11 ∷ 12 ∷ 13 ∷ 14 ∷ 15 ∷ 16 ∷ 17 ∷ 18 ∷ 19 ∷ 20 ∷ 21 ∷ 22 ∷ 23 ∷ 24 ∷ 25 ∷ 26 ∷ 27 ∷ 28 ∷ []) $ puts s small within e u ee ie))
 

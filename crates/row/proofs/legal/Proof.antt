@@ -38,32 +38,32 @@ use denote.Triple.Table.{entered, cited}
 use denote.Triple.Walked.{says, Stays, stay-none-slice, walkOf, goes-none-slice, Walks, ends-at, walked, walk-meets}
 use denote.Triple.Clauses.{ensured, lasts}
 use denote.Exit.{yes}
-use Rattle.row.specs.Aim.{refused as nobody}
-use Rattle.row.specs.Sight.{survey}
-use Rattle.row.specs.Calls.{row-legal}
+use Rattle.sight.specs.Aim.{refused as nobody}
+use Rattle.sight.specs.Sight.{survey}
+use Rattle.sight.specs.Table.{row-legal}
 use Rattle.row.proofs.Walk.{value, shared, hears}
-use Rattle.row.proofs.Rows.{legal-is}
-use Rattle.row.specs.declared.aims.Aim.{Aim}
+use Rattle.sight.proofs.Rows.{legal-is}
+use Rattle.sight.specs.declared.aims.Aim.{Aim}
 use Rattle.partner.specs.declared.Entry.{Entry}
-use Rattle.row.specs.declared.sight.Sight.{Sight}
-use Rattle.row.proofs.aims.Aim as N
-use Rattle.row.proofs.aims.Aim.Laws as N′
+use Rattle.sight.specs.declared.Sight.{Sight}
+use Rattle.sight.proofs.aims.Aim as N
+use Rattle.sight.proofs.aims.Aim.Laws as N′
 use Rattle.partner.proofs.Entry as T
 use Rattle.partner.proofs.Entry.Laws as T′
-use Rattle.row.proofs.sight.Sight as Z
-use Rattle.row.proofs.sight.Sight.Laws as Z′
-use Rattle.row.proofs.aims.ours as ours′
-use Rattle.row.proofs.aims.ours.Symbol as ours-def
-use Rattle.row.proofs.aims.ours.Symbol.{name as #row·ours}
-use Rattle.row.proofs.aims.ours.Met as ours-thm
+use Rattle.sight.proofs.Sight as Z
+use Rattle.sight.proofs.Sight.Laws as Z′
+use Rattle.sight.proofs.aims.ours as ours′
+use Rattle.sight.proofs.aims.ours.Symbol as ours-def
+use Rattle.sight.proofs.aims.ours.Symbol.{name as #sight·ours}
+use Rattle.sight.proofs.aims.ours.Met as ours-thm
 use Rattle.row.proofs.survey as survey′
 use Rattle.row.proofs.survey.Symbol as survey-def
 use Rattle.row.proofs.survey.Symbol.{name as #row·survey}
 use Rattle.row.proofs.survey.Met as survey-thm
-use Rattle.row.proofs.sight.is_legal as is-legal′
-use Rattle.row.proofs.sight.is_legal.Symbol as is-legal-def
-use Rattle.row.proofs.sight.is_legal.Symbol.{name as #row·is-legal}
-use Rattle.row.proofs.sight.is_legal.Met as is-legal-thm
+use Rattle.sight.proofs.is_legal as is-legal′
+use Rattle.sight.proofs.is_legal.Symbol as is-legal-def
+use Rattle.sight.proofs.is_legal.Symbol.{name as #sight·is-legal}
+use Rattle.sight.proofs.is_legal.Met as is-legal-thm
 use Rattle.row.proofs.legal.Key.{name as #row·legal}
 use Rattle.row.proofs.legal as F
 use Rattle.row.proofs.legal.Statement as stated
@@ -94,9 +94,9 @@ module _ {M : Type 1} (𝓤 : URA M) (H : Heap 𝓤) (A : Atoms 𝓤) (mem : Mem
   IsLegal = tripleOf 𝓤 H A is-legal′.signature (is-legal′.spec 𝓤 H A mem run)
 
 record Known {M : Type 1} (𝓤 : URA M) (H : Heap 𝓤) (A : Atoms 𝓤) (mem : Memory → SProp 𝓤) (run : Routine → Fun 𝓤) (C : Calls 𝓤 H) : Type 2 where
-  pub ours : Triple 𝓤 (C #row·ours) (Ours 𝓤 H A mem run)
+  pub ours : Triple 𝓤 (C #sight·ours) (Ours 𝓤 H A mem run)
   pub survey : Triple 𝓤 (C #row·survey) (Survey 𝓤 H A mem run)
-  pub is-legal : Triple 𝓤 (C #row·is-legal) (IsLegal 𝓤 H A mem run)
+  pub is-legal : Triple 𝓤 (C #sight·is-legal) (IsLegal 𝓤 H A mem run)
 
 module _ {M : Type 1} (𝓤 : URA M) (H : Heap 𝓤) (A : Atoms 𝓤) (W : Given 𝓤 H A) (mem : Memory → SProp 𝓤) (run : Routine → Fun 𝓤) (κ₀ κ₁ : Lft) (q₀ q₁ : Share)
     (s₀ : RefT (List Entry)) (s₁ : RefT (List ℕ)) where
@@ -198,7 +198,7 @@ legal-spec 𝓤 H 𝓜 𝓖 𝓡 =
     entered 𝓤 H (tripleOf 𝓤 H (𝓖 .A) F.signature (F.spec 𝓤 H (𝓖 .A) (𝓜 .mem) (𝓡 .run)))
     (tables 𝓤 H 𝓜 𝓡 code.env .C) (tables 𝓤 H 𝓜 𝓡 code.env .Λ) #row·legal code.function (code.unfolded 𝓤 H 𝓜 𝓡)
     (legal-meets 𝓤 H (𝓖 .A) (givenOf 𝓤 H 𝓜 𝓖) (𝓜 .mem) (𝓡 .run) (tablesOf 𝓤 H 𝓜 (tables 𝓤 H 𝓜 𝓡 code.env)) (record {
-      ours = cited 𝓤 H (Ours 𝓤 H (𝓖 .A) (𝓜 .mem) (𝓡 .run)) 𝓜 𝓡 code.env #row·ours ours-def.routine code.calls-row·aims·ours (ours-thm.met 𝓤 H 𝓜 𝓖 𝓡);
+      ours = cited 𝓤 H (Ours 𝓤 H (𝓖 .A) (𝓜 .mem) (𝓡 .run)) 𝓜 𝓡 code.env #sight·ours ours-def.routine code.calls-sight·aims·ours (ours-thm.met 𝓤 H 𝓜 𝓖 𝓡);
       survey = cited 𝓤 H (Survey 𝓤 H (𝓖 .A) (𝓜 .mem) (𝓡 .run)) 𝓜 𝓡 code.env #row·survey survey-def.routine code.calls-row·survey (survey-thm.met 𝓤 H 𝓜 𝓖 𝓡);
-      is-legal = cited 𝓤 H (IsLegal 𝓤 H (𝓖 .A) (𝓜 .mem) (𝓡 .run)) 𝓜 𝓡 code.env #row·is-legal is-legal-def.routine code.calls-row·sight·is-legal (is-legal-thm.met 𝓤 H 𝓜 𝓖 𝓡);
+      is-legal = cited 𝓤 H (IsLegal 𝓤 H (𝓖 .A) (𝓜 .mem) (𝓡 .run)) 𝓜 𝓡 code.env #sight·is-legal is-legal-def.routine code.calls-sight·is-legal (is-legal-thm.met 𝓤 H 𝓜 𝓖 𝓡);
     }))

@@ -46,20 +46,20 @@ use denote.Enum.Laws as LE
 use Rattle.octets.specs.Text.{Text}
 use Rattle.outcome.specs.Report.{turned, report}
 use Rattle.calls.specs.Calls as every
-use Rattle.row.specs.Aim.{at-free-slot}
-use Rattle.row.specs.Sight.{survey}
+use Rattle.sight.specs.Aim.{at-free-slot}
+use Rattle.sight.specs.Sight.{survey}
 use Rattle.row.specs.Acts as acts
 use Rattle.row.specs.Calls.{over}
 use Rattle.row.proofs.Walk.{value, shared, unique, hears, hears-last, one-fact, both, says-all}
 use Rattle.row.proofs.Loading.{load-ends}
-use Rattle.row.specs.declared.aims.Aim.{Aim}
+use Rattle.sight.specs.declared.aims.Aim.{Aim}
 use Rattle.outcome.specs.declared.Report.{Report}
 use Rattle.partner.specs.declared.Entry.{Entry}
 use Rattle.keying.specs.declared.Top.{Top}
 use Rattle.outcome.specs.declared.Turned.{Turned}
-use Rattle.row.specs.declared.sight.Sight.{Sight}
-use Rattle.row.proofs.aims.Aim as N
-use Rattle.row.proofs.aims.Aim.Laws as N′
+use Rattle.sight.specs.declared.Sight.{Sight}
+use Rattle.sight.proofs.aims.Aim as N
+use Rattle.sight.proofs.aims.Aim.Laws as N′
 use Rattle.outcome.proofs.Report as Rep
 use Rattle.outcome.proofs.Report.Laws as Rep′
 use Rattle.partner.proofs.Entry as T
@@ -68,12 +68,12 @@ use Rattle.keying.proofs.Top as Tp
 use Rattle.keying.proofs.Top.Laws as Tp′
 use Rattle.outcome.proofs.Turned as Tur
 use Rattle.outcome.proofs.Turned.Laws as Tur′
-use Rattle.row.proofs.sight.Sight as Z
-use Rattle.row.proofs.sight.Sight.Laws as Z′
-use Rattle.row.proofs.aims.at_free_slot as at-free-slot′
-use Rattle.row.proofs.aims.at_free_slot.Symbol as at-free-slot-def
-use Rattle.row.proofs.aims.at_free_slot.Symbol.{name as #row·at-free-slot}
-use Rattle.row.proofs.aims.at_free_slot.Met as at-free-slot-thm
+use Rattle.sight.proofs.Sight as Z
+use Rattle.sight.proofs.Sight.Laws as Z′
+use Rattle.sight.proofs.aims.at_free_slot as at-free-slot′
+use Rattle.sight.proofs.aims.at_free_slot.Symbol as at-free-slot-def
+use Rattle.sight.proofs.aims.at_free_slot.Symbol.{name as #sight·at-free-slot}
+use Rattle.sight.proofs.aims.at_free_slot.Met as at-free-slot-thm
 use Rattle.row.proofs.survey as survey′
 use Rattle.row.proofs.survey.Symbol as survey-def
 use Rattle.row.proofs.survey.Symbol.{name as #row·survey}
@@ -119,7 +119,7 @@ module _ {M : Type 1} (𝓤 : URA M) (H : Heap 𝓤) (A : Atoms 𝓤) (mem : Mem
   Settle = tripleOf 𝓤 H A settle′.signature (settle′.spec 𝓤 H A mem run)
 
 record Known {M : Type 1} (𝓤 : URA M) (H : Heap 𝓤) (A : Atoms 𝓤) (mem : Memory → SProp 𝓤) (run : Routine → Fun 𝓤) (C : Calls 𝓤 H) : Type 2 where
-  pub at-free-slot : Triple 𝓤 (C #row·at-free-slot) (AtFree 𝓤 H A mem run)
+  pub at-free-slot : Triple 𝓤 (C #sight·at-free-slot) (AtFree 𝓤 H A mem run)
   pub survey : Triple 𝓤 (C #row·survey) (Survey 𝓤 H A mem run)
   pub loading : Triple 𝓤 (C #row·loading) (Load 𝓤 H A mem run)
   pub settle : Triple 𝓤 (C #row·settle) (Settle 𝓤 H A mem run)
@@ -261,7 +261,7 @@ load-spec 𝓤 H 𝓜 𝓖 𝓡 =
     entered 𝓤 H (tripleOf 𝓤 H (𝓖 .A) F.signature (F.spec 𝓤 H (𝓖 .A) (𝓜 .mem) (𝓡 .run)))
     (tables 𝓤 H 𝓜 𝓡 code.env .C) (tables 𝓤 H 𝓜 𝓡 code.env .Λ) #row·load code.function (code.unfolded 𝓤 H 𝓜 𝓡)
     (load-meets 𝓤 H (𝓖 .A) (givenOf 𝓤 H 𝓜 𝓖) (𝓜 .mem) (𝓡 .run) (tablesOf 𝓤 H 𝓜 (tables 𝓤 H 𝓜 𝓡 code.env)) (record {
-      at-free-slot = cited 𝓤 H (AtFree 𝓤 H (𝓖 .A) (𝓜 .mem) (𝓡 .run)) 𝓜 𝓡 code.env #row·at-free-slot at-free-slot-def.routine code.calls-row·aims·at-free-slot (at-free-slot-thm.met 𝓤 H 𝓜 𝓖 𝓡);
+      at-free-slot = cited 𝓤 H (AtFree 𝓤 H (𝓖 .A) (𝓜 .mem) (𝓡 .run)) 𝓜 𝓡 code.env #sight·at-free-slot at-free-slot-def.routine code.calls-sight·aims·at-free-slot (at-free-slot-thm.met 𝓤 H 𝓜 𝓖 𝓡);
       survey = cited 𝓤 H (Survey 𝓤 H (𝓖 .A) (𝓜 .mem) (𝓡 .run)) 𝓜 𝓡 code.env #row·survey survey-def.routine code.calls-row·survey (survey-thm.met 𝓤 H 𝓜 𝓖 𝓡);
       loading = cited 𝓤 H (Load 𝓤 H (𝓖 .A) (𝓜 .mem) (𝓡 .run)) 𝓜 𝓡 code.env #row·loading loading-def.routine code.calls-row·acts·load (loading-thm.met 𝓤 H 𝓜 𝓖 𝓡);
       settle = cited 𝓤 H (Settle 𝓤 H (𝓖 .A) (𝓜 .mem) (𝓡 .run)) 𝓜 𝓡 code.env #row·settle settle-def.routine code.calls-row·settle (settle-thm.met 𝓤 H 𝓜 𝓖 𝓡);

@@ -42,19 +42,19 @@ use Rattle.row.proofs.Walk.{value, unique, hears, hears-last, both, say
 use Rattle.outcome.specs.declared.Report.{Report}
 use Rattle.partner.specs.declared.Entry.{Entry}
 use Rattle.outcome.specs.declared.Turned.{Turned}
-use Rattle.row.specs.declared.sight.Sight.{Sight}
+use Rattle.sight.specs.declared.Sight.{Sight}
 use Rattle.outcome.proofs.Report as Rep
 use Rattle.outcome.proofs.Report.Laws as Rep′
 use Rattle.partner.proofs.Entry as T
 use Rattle.partner.proofs.Entry.Laws as T′
 use Rattle.outcome.proofs.Turned as Tur
 use Rattle.outcome.proofs.Turned.Laws as Tur′
-use Rattle.row.proofs.sight.Sight as Z
-use Rattle.row.proofs.sight.Sight.Laws as Z′
-use Rattle.row.proofs.sight.place as place′
-use Rattle.row.proofs.sight.place.Symbol as place-def
-use Rattle.row.proofs.sight.place.Symbol.{name as #row·place}
-use Rattle.row.proofs.sight.place.Met as place-thm
+use Rattle.sight.proofs.Sight as Z
+use Rattle.sight.proofs.Sight.Laws as Z′
+use Rattle.sight.proofs.place as place′
+use Rattle.sight.proofs.place.Symbol as place-def
+use Rattle.sight.proofs.place.Symbol.{name as #sight·place}
+use Rattle.sight.proofs.place.Met as place-thm
 use Rattle.row.proofs.acts.entry as entry′
 use Rattle.row.proofs.acts.entry.Symbol as entry-def
 use Rattle.row.proofs.acts.entry.Symbol.{name as #row·entry}
@@ -103,7 +103,7 @@ module _ {M : Type 1} (𝓤 : URA M) (H : Heap 𝓤) (A : Atoms 𝓤) (mem : Mem
   Told = tripleOf 𝓤 H A told′.signature (told′.spec 𝓤 H A mem run)
 
 record Known {M : Type 1} (𝓤 : URA M) (H : Heap 𝓤) (A : Atoms 𝓤) (mem : Memory → SProp 𝓤) (run : Routine → Fun 𝓤) (C : Calls 𝓤 H) : Type 2 where
-  pub place : Triple 𝓤 (C #row·place) (Place 𝓤 H A mem run)
+  pub place : Triple 𝓤 (C #sight·place) (Place 𝓤 H A mem run)
   pub entry : Triple 𝓤 (C #row·entry) (EntryOf 𝓤 H A mem run)
   pub replace : Triple 𝓤 (C #row·replace) (Replace 𝓤 H A mem run)
   pub told : Triple 𝓤 (C #row·told) (Told 𝓤 H A mem run)
@@ -233,7 +233,7 @@ settle-spec 𝓤 H 𝓜 𝓖 𝓡 =
     entered 𝓤 H (tripleOf 𝓤 H (𝓖 .A) F.signature (F.spec 𝓤 H (𝓖 .A) (𝓜 .mem) (𝓡 .run)))
     (tables 𝓤 H 𝓜 𝓡 code.env .C) (tables 𝓤 H 𝓜 𝓡 code.env .Λ) #row·settle code.function (code.unfolded 𝓤 H 𝓜 𝓡)
     (settle-meets 𝓤 H (𝓖 .A) (givenOf 𝓤 H 𝓜 𝓖) (𝓜 .mem) (𝓡 .run) (tablesOf 𝓤 H 𝓜 (tables 𝓤 H 𝓜 𝓡 code.env)) (record {
-      place = cited 𝓤 H (Place 𝓤 H (𝓖 .A) (𝓜 .mem) (𝓡 .run)) 𝓜 𝓡 code.env #row·place place-def.routine code.calls-row·sight·place (place-thm.met 𝓤 H 𝓜 𝓖 𝓡);
+      place = cited 𝓤 H (Place 𝓤 H (𝓖 .A) (𝓜 .mem) (𝓡 .run)) 𝓜 𝓡 code.env #sight·place place-def.routine code.calls-sight·place (place-thm.met 𝓤 H 𝓜 𝓖 𝓡);
       entry = cited 𝓤 H (EntryOf 𝓤 H (𝓖 .A) (𝓜 .mem) (𝓡 .run)) 𝓜 𝓡 code.env #row·entry entry-def.routine code.calls-row·acts·entry (entry-thm.met 𝓤 H 𝓜 𝓖 𝓡);
       replace = cited 𝓤 H (Replace 𝓤 H (𝓖 .A) (𝓜 .mem) (𝓡 .run)) 𝓜 𝓡 code.env #row·replace replace-def.routine code.calls-row·replace (replace-thm.met 𝓤 H 𝓜 𝓖 𝓡);
       told = cited 𝓤 H (Told 𝓤 H (𝓖 .A) (𝓜 .mem) (𝓡 .run)) 𝓜 𝓡 code.env #row·told told-def.routine code.calls-row·acts·told (told-thm.met 𝓤 H 𝓜 𝓖 𝓡);

@@ -50,8 +50,8 @@ use Rattle.row.specs.Stored.{size}
 use Rattle.partner.proofs.Entry as T
 use Rattle.partner.proofs.Entry.Laws as T′
 use Rattle.row.proofs.Walk.{hears, one-fact}
+use Rattle.row.proofs.Looking.{LookUp, to-look, asks-look, said-look}
 use Rattle.row.proofs.Laying.{Sized, size-fits, sum-fits, next-bound, next-sized, sized-all}
-use Rattle.row.proofs.look_up as look
 use Rattle.row.proofs.look_up.Symbol as look-def
 use Rattle.row.proofs.look_up.Symbol.{name as #row·look-up}
 use Rattle.row.proofs.look_up.Met as look-thm
@@ -88,10 +88,7 @@ abbrev slice : Ty
 slice = sliceTy (tyRef (named 0) imm (pointee (R .written)))
 
 module _ {M : Type 1} (𝓤 : URA M) (H : Heap 𝓤) (A : Atoms 𝓤) (mem : Memory → SProp 𝓤) (run : Routine → Fun 𝓤) where
-  -- the contracts that the proof cites
-  abbrev LookUp : Contract 𝓤
-  LookUp = tripleOf 𝓤 H A look.signature (look.spec 𝓤 H A mem run)
-
+  -- the contract that the proof cites beside that of `look_up`
   abbrev SlotLength : Contract 𝓤
   SlotLength = tripleOf 𝓤 H A slot-length′.signature (slot-length′.spec 𝓤 H A mem run)
 
@@ -126,15 +123,6 @@ module _ {M : Type 1} (𝓤 : URA M) (H : Heap 𝓤) (A : Atoms 𝓤) (W : Given
       owned ! usize (Is usize) (uint-makes 𝓤 H A W w64) t _ (refl, tf) $ done !
 
   -- ---- what the callees are passed
-  abbrev to-look : ℕ → LookUp 𝓤 H A mem run .Ghost
-  to-look j = (((κ, tt), (q, tt), tt, (row, (j, tt)), (v ∷ [], (vint w64 j ∷ [], tt))), tt)
-
-  asks-look : (j : ℕ) → j < 2 ^ 64 → ent 𝓤 (⋆ 𝓤 H A ((‵ (flft κ q) ⊛ ‵ ftrue) ∷ ‵ Own ∷ [])) (LookUp 𝓤 H A mem run .pre (to-look j))
-  asks-look j gj = qed W ((‵ (flft κ q) ⊛ ‵ ftrue) ∷ ‵ Own ∷ []) ∵ nothing ! $ owned ! usize (Is usize) (uint-makes 𝓤 H A W w64) j _ (refl, gj) $ fjoin ! $ move ! (2 ∷ 0 ∷ []) $ fjoin ! $ move ! (1 ∷ 0 ∷ []) $ join ! $ frame ! $ done !
-
-  said-look : (j : ℕ) (r : Entry) → ent 𝓤 (ensured 𝓤 H A look.ended (look.clauses 𝓤 H A mem run) (κ, tt) (row, (j, tt)) tt r) (fact 𝓤 (r ≡ getD ys j empty))
-  said-look j r = exE 𝓤 _ (λ ws. snd∗ 𝓤 (sem 𝓤 H A (lasts look.ended (κ, tt) (row, (j, tt)) ws)) (fact 𝓤 (r ≡ getD ys j empty)))
-
   abbrev to-length : Entry → Val → SlotLength 𝓤 H A mem run .Ghost
   to-length r u = ((tt, tt, tt, (r, tt), (u ∷ [], tt)), tt)
 
@@ -176,9 +164,9 @@ module _ {M : Type 1} (𝓤 : URA M) (H : Heap 𝓤) (A : Atoms 𝓤) (W : Given
         let fi : s .i < 2 ^ 64 = omega (arith, gn .0) in
         let nf : s .i + 1 < 2 ^ 64 = omega (arith, gn .0) in
         use1 W (‵ Own ⊛ ‵ Own) (shr-slice-copy 𝓤 H A W (named 0) κ R .twice row (v ∷ [])) $ split ! $ move ! (16 ∷ 0 ∷ []) $
-        use2 W (raw (LookUp 𝓤 H A mem run .pre (to-look (s .i)))) (asks-look (s .i) fi) $
-        calls-at ! fm (LookUp 𝓤 H A mem run) known-l (to-look (s .i)) (and-then ! (load ! (from ! (stop !)) (look ! 12 refl)) (and-then ! (load ! (from ! (stop !)) (look ! 8 refl)) (no-more !))) (λ u.
-        hears ! tt R (‵ (flft κ q) ⊛ ‵ ftrue) _ (λ r. r ≡ getD ys (s .i) empty) (said-look (s .i)) u (id⊢ 𝓤 _) (λ r er ir.
+        use2 W (raw (LookUp 𝓤 H A mem run .pre (to-look 𝓤 H A mem run κ q row (s .i)))) (asks-look 𝓤 H A mem run κ q row W (s .i) fi) $
+        calls-at ! fm (LookUp 𝓤 H A mem run) known-l (to-look 𝓤 H A mem run κ q row (s .i)) (and-then ! (load ! (from ! (stop !)) (look ! 12 refl)) (and-then ! (load ! (from ! (stop !)) (look ! 8 refl)) (no-more !))) (λ u.
+        hears ! tt R (‵ (flft κ q) ⊛ ‵ ftrue) _ (λ r. r ≡ getD ys (s .i) empty) (said-look 𝓤 H A mem run κ q row (s .i)) u (id⊢ 𝓤 _) (λ r er ir.
         land ! (from ! (stop !)) (init ! 2 refl (LL.lawful T.the-type T′.the-laws 𝓤 H A W .typed r _ ir .0)) $ use0 W (raw (SlotLength 𝓤 H A mem run .pre (to-length r u))) (asks-length r u ir) $
         calls-at ! fm (SlotLength 𝓤 H A mem run) known-s (to-length r u) (and-then ! (load ! (from ! (stop !)) (look ! 3 refl)) (no-more !)) (λ w.
         hears ! tt usize (‵ ftrue) _ (λ k. (k ≡ length (slot-bytes r)) × (k ≤ 157)) (said-length r) w (id⊢ 𝓤 _) (λ k ek ik. drop ! $

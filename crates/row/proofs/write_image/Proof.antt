@@ -51,7 +51,8 @@ use denote.Index.{whole-in, whole-out}
 use types.SemTy.{cells, Arr}
 use Rattle.outcome.specs.Report.{report, replied}
 use Rattle.row.specs.Stored.{size, write-answer, laid, fronted, write-report}
-use Rattle.row.specs.Calls.{row-legal, written}
+use Rattle.sight.specs.Table.{row-legal}
+use Rattle.row.specs.Calls.{written}
 use Rattle.row.proofs.Walk.{value, shared, unique, hears, hears-last, both, one-fact, says-all}
 use Rattle.row.proofs.Writing.{written-is}
 use Rattle.outcome.specs.declared.Report.{Report}

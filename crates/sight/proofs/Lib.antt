@@ -1,0 +1,5 @@
+pub mod Aiming
+pub mod Seeing
+pub mod Rows
+pub mod Finding
+pub mod Showing

@@ -1,0 +1,28 @@
+-- `sight::concluded` meets its contract: field by field. Assumes nothing.
+use borrow.Author.Needs.{needs}
+use mathlib.Core.Path.{ap, _∙_}
+use mathlib.Core.Bool.{Bool, _&&_}
+use Rattle.sight.proofs.Seeing.{ends-found, ends-without}
+use Rattle.sight.proofs.concluded.Statement.{statement}
+use Rattle.sight.proofs.concluded.Tie as tie
+
+both-requires : tie.Need-both-requires
+both-requires c κs = search needs
+
+both-requires-2 : tie.Need-both-requires-2
+both-requires-2 c κs = search needs
+
+returns : tie.Need-returns
+returns c =
+    let a = c .before .before .before .args in
+    ends-found (a .aim) (a .seen) (a .count) _
+    (c .before .both2 .ensures ∙ ap (λ (b : Bool). b && a .aim .ours) (c .before .before .both .ensures)) (c .if1 .taken)
+
+returns-2 : tie.Need-returns-2
+returns-2 c =
+    let a = c .before .before .before .args in
+    ends-without (a .aim) (a .seen) (a .count) _
+    (c .before .both2 .ensures ∙ ap (λ (b : Bool). b && a .aim .ours) (c .before .before .both .ensures)) (c .if1 .left)
+
+pub concluded-spec : {M : Type 1} → statement M
+concluded-spec = tie.close (tie.spec both-requires both-requires-2 returns returns-2)

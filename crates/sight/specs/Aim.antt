@@ -1,0 +1,57 @@
+-- Whom a call is about: our identity and the partner's, and what a text is refused for before its partner is looked up.
+use mathlib.Core.Bool.{true, false, not, cond}
+use mathlib.Core.List.{[]}
+use mathlib.Core.Option.{Option, none, some}
+use Prim.Native.Nat.{ℕ}
+use Rattle.octets.specs.Text.{Text, same, is-name}
+use Rattle.csm.specs.Message.{Reading, read}
+use Rattle.partner.specs.Entry.{name-of}
+use Rattle.reader.specs.declared.Head.{Head}
+use Rattle.reader.specs.Parts as parts
+use Rattle.sight.specs.declared.aims.Aim.{Aim}
+
+-- a partner by its identity
+abbrev pub at-partner : Text → Text → Aim
+at-partner own id = record {
+  own = name-of own;
+  ours = is-name own;
+  partner = name-of id;
+  theirs = is-name id;
+  vacant = false;
+  answer = 0;
+}
+
+-- a free slot for a partner
+abbrev pub at-free-slot : Text → Text → Aim
+at-free-slot own id = record {
+  own = name-of own;
+  ours = is-name own;
+  partner = name-of id;
+  theirs = is-name id;
+  vacant = true;
+  answer = 0;
+}
+
+-- nobody: the text is refused
+abbrev pub refused : Text → ℕ → Aim
+refused own n = record {
+  own = name-of own;
+  ours = is-name own;
+  partner = name-of [];
+  theirs = is-name [];
+  vacant = false;
+  answer = n;
+}
+
+-- the originator of a text to us, by the lengths of RCV and ORG; 2 where RCV is not us
+unfoldable pub originator : Text → Text → Head → Aim
+originator own text head =
+    cond (not (same (parts.rcv head text) own)) (refused own 2) (at-partner own (parts.org head text))
+
+-- the same of a text's reading; 1 where there is none
+unfoldable pub of-reading : Text → Option Reading → Aim
+of-reading own none = refused own 1
+of-reading own (some r) = cond (not (same (r .rcv) own)) (refused own 2) (at-partner own (r .org))
+
+abbrev pub of-text : Text → Text → Aim
+of-text own text = of-reading own (read text)

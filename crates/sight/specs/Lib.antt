@@ -1,0 +1,3 @@
+pub mod Aim
+pub mod Table
+pub mod Sight
