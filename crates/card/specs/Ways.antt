@@ -8,7 +8,6 @@ use Rattle.octets.specs.Part.{bare}
 use Rattle.keying.specs.declared.Top.{Top}
 use Rattle.csm.specs.Message.{Reading}
 use Rattle.reader.specs.Seen.{head-seen}
-use Rattle.partner.specs.declared.Entry.{Entry}
 use Rattle.partner.specs.Entry.{filled, zero-name}
 use Rattle.image.specs.Image.{found}
 use Rattle.image.specs.Places.{own-in, entry-at, place-of}

@@ -9,7 +9,7 @@ use lib.Seq.{drop-cons, drop-drop, getD-take, take-all}
 use lib.Pow.{pow-add, pow-mono}
 use lib.Bits.{bitXor}
 use Rattle.octets.specs.Text.{Text}
-use Rattle.octets.specs.Number.{number, number-after, copies}
+use Rattle.octets.specs.Number.{number-after, copies}
 use Rattle.dea.specs.Dea.{cipher}
 use Rattle.dea.specs.Chain.{first-block, blocks, blocks-of, chain, chained}
 

@@ -1,5 +1,5 @@
 -- Laws of the face's bytes: parts of a request as its code cuts them.
-use mathlib.Core.Path.{_≡_, refl, sym, ap, _∙_}
+use mathlib.Core.Path.{_≡_, refl, ap, _∙_}
 use mathlib.Core.List.{[], _∷_, _++_}
 use mathlib.Core.Bool.{true}
 use Prim.Native.Nat.{ℕ, zero, suc, _+_, _-_, _%_, _^_, _≤_}
@@ -12,7 +12,6 @@ use Rattle.octets.specs.Wrote.{over}
 use Rattle.octets.proofs.Comparing.{octets-part}
 use Rattle.octets.proofs.Numbers.{number-fits}
 use Rattle.octets.proofs.Writing.{over-full}
-use Rattle.partner.specs.declared.Name.{Name}
 use Rattle.partner.specs.Entry.{filled, name-of}
 use Rattle.face.specs.Request.{part}
 

@@ -1,28 +1,28 @@
 -- All that a call does to one partner's entry: six events.
 use mathlib.Core.Path.{_≡_, refl, sym}
-use mathlib.Core.Bool.{Bool, true, false, cond, not, _&&_, true≢false}
+use mathlib.Core.Bool.{Bool, true, false, cond, not, _&&_}
 use mathlib.Core.List.{List, [], _∷_}
 use mathlib.Core.Option.{Option, none, some}
-use Prim.Native.Nat.{ℕ, _+_, _≤_, _<_}
+use Prim.Native.Nat.{ℕ, _≤_, _<_}
 use native.Mathlib.Omega.{arith}
 use lib.Dec.{eqb}
-use borrow.Author.Tests.{eqb-true, eqb-false, not-false, ltb-false}
-use Rattle.octets.specs.Text.{Text, same, within, is-name}
+use borrow.Author.Tests.{eqb-true, not-false, ltb-false}
+use Rattle.octets.specs.Text.{Text, same, is-name}
 use Rattle.octets.specs.Part.{bare}
 use Rattle.keying.specs.Mac.{mac-key, mac}
 use Rattle.csm.specs.Format.{value}
 use Rattle.csm.specs.Fields.{svr}
 use Rattle.csm.specs.Message.{Rsi, Ksm, Rsm, Esm, Body, rsi, ksm, rsm, esm, option, legal-body, print}
 use Rattle.csm.specs.Covered.{covered}
-use Rattle.csm.proofs.TextLaws.{and-true, within-true}
+use Rattle.csm.proofs.TextLaws.{and-true}
 use Rattle.partner.specs.declared.Entry.{Entry}
 use Rattle.partner.specs.Entry.{limit, waiting, broken, no-keys, keys-in}
 use Rattle.partner.specs.Legal.{legal}
 use Rattle.partner.specs.Changes.{sending, accepted, issued, settled, given-up, failed}
 use Rattle.calls.specs.declared.Request.{Request}
 use Rattle.calls.specs.Words.{if_then_else_, any}
-use Rattle.calls.specs.Outcome.{F, I, K, M, O, P, Outcome, Told, failure, nothing, Turn, refused, done}
-use Rattle.calls.specs.Receive.{to-partner, esm-body, error, rsm-text, brought, when, faults, bad-format, bad-mac}
+use Rattle.calls.specs.Outcome.{I, K, M, O, Outcome, Told, failure, nothing, Turn, refused, done}
+use Rattle.calls.specs.Receive.{to-partner, esm-body, error, rsm-text, brought, faults, bad-format, bad-mac}
 use Rattle.calls.specs.Receive.{bad-count, counts-for, judged, receive-ksm, is-waiting, receive-rsm, after-esm}
 use Rattle.calls.specs.Receive.{receive-esm, receive}
 use Rattle.calls.specs.Build.{used, not-odd, malformed, outgoing-of, ksm-text, build-ksm, build-rsi, give-up}
@@ -30,7 +30,7 @@ use Rattle.calls.specs.Claims.{Carries}
 use Rattle.calls.proofs.Turns.{letters-legal, no-P, short-of-last}
 use Rattle.calls.proofs.Tests.{or-split, by-case}
 use Rattle.partner.proofs.Keeping.{rules}
-use Rattle.calls.proofs.Readings.{esm-legal, counted-legal, ksm-parts}
+use Rattle.calls.proofs.Readings.{esm-legal, ksm-parts}
 use Rattle.calls.proofs.Written.{to-them}
 use Rattle.line.specs.Line.{count-in, In-64-bits}
 

@@ -1,5 +1,5 @@
 -- Numbers as bytes, the high byte first.
-use mathlib.Core.List.{List, [], _∷_, _++_}
+use mathlib.Core.List.{[], _∷_, _++_}
 use Prim.Native.Nat.{ℕ, zero, suc, _+_, _*_, _/_, _%_}
 use Rattle.octets.specs.Text.{Text}
 

@@ -1,6 +1,6 @@
 -- What a writer that was lent the unwritten rest of a buffer leaves there.
 use mathlib.Core.Path.{_≡_}
-use mathlib.Core.List.{List, [], _∷_, _++_}
+use mathlib.Core.List.{[], _∷_, _++_}
 use Prim.Native.Nat.{ℕ}
 use lib.ListN.{length, drop}
 use Rattle.octets.specs.Text.{Text}

@@ -4,7 +4,6 @@ use lib.Dec.{eqb, ltb, leb}
 use Rattle.octets.specs.Text.{Text, same, within, is-name}
 use Rattle.octets.specs.Part.{bare}
 use Rattle.keying.specs.Keys.{odd-top}
-use Rattle.partner.specs.declared.Name.{Name}
 use Rattle.partner.specs.declared.DataKey.{DataKey}
 use Rattle.partner.specs.declared.KeySet.{KeySet}
 use Rattle.partner.specs.declared.Entry.{Entry}

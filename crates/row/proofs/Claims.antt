@@ -2,7 +2,7 @@
 use mathlib.Core.Path.{_≡_, refl, sym, ap, _∙_}
 use mathlib.Core.Bool.{Bool, true, false, _&&_}
 use mathlib.Core.List.{List}
-use mathlib.Core.Option.{Option, some}
+use mathlib.Core.Option.{some}
 use Prim.Native.Nat.{_≤_}
 use lib.Dec.{eqb}
 use lib.ListN.{length, take}
@@ -11,13 +11,12 @@ use Rattle.octets.specs.Text.{Text, is-name}
 use Rattle.octets.specs.Part.{bare}
 use Rattle.csm.proofs.TextLaws.{and-true}
 use Rattle.partner.specs.declared.Entry.{Entry}
-use Rattle.partner.specs.Entry.{filled}
 use Rattle.partner.proofs.Claims as entries
 use Rattle.image.specs.Table.{Table, legal, AllHeld}
 use Rattle.image.specs.Image.{encode, decode}
 use Rattle.image.proofs.Claims as images
 use Rattle.calls.specs.Words.{if_then_else_}
-use Rattle.calls.specs.Calls.{Call, After, run, refuse}
+use Rattle.calls.specs.Calls.{Call, run, refuse}
 use Rattle.calls.proofs.Tests.{if-true, if-false}
 use Rattle.calls.proofs.Tables.{legal-parts, own-name}
 use Rattle.outcome.specs.Report.{report, replied}

@@ -1,23 +1,20 @@
 -- A stored image, slot by slot: where the records stand, and the row that they fill.
 use mathlib.Core.Path.{_≡_, refl, sym, ap, _∙_}
-use mathlib.Core.Bool.{Bool, true, false, cond, not}
-use mathlib.Core.List.{List, [], _∷_}
-use mathlib.Core.Option.{Option, none, some}
+use mathlib.Core.Bool.{Bool, cond}
 use Prim.Native.Nat.{ℕ, zero, suc, _+_, _-_, _<_, _≤_}
 use native.Mathlib.Omega.{arith}
 use native.Mathlib.Nat.{add-zero}
 use lib.Dec.{eqb}
-use lib.ListN.{length, take, drop, getD}
+use lib.ListN.{take, drop, getD}
 use lib.Seq.{getD-drop, drop-drop}
-use borrow.Author.Tests.{eq-eqb, ne-eqb, eqb-true}
-use Rattle.octets.specs.Text.{Text, is-name}
-use Rattle.partner.specs.declared.Entry.{Entry}
+use borrow.Author.Tests.{eq-eqb, ne-eqb}
+use Rattle.octets.specs.Text.{Text}
 use Rattle.partner.specs.Entry.{empty}
 use Rattle.partner.specs.Record.{entry-in}
 use Rattle.image.specs.Image as images
 use Rattle.image.specs.Image.{slot-in, slots-in}
 use Rattle.image.specs.Places.{entry-at}
-use Rattle.row.specs.Stored.{place, start-answer, read-answer, filled}
+use Rattle.row.specs.Stored.{place}
 
 -- one record on
 pub place-step : (at n : ℕ) (s : Text) → 0 < n → place at n s ≡ place (at + images.record-length (getD s at 0)) (n - 1) s

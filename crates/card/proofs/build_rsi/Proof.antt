@@ -6,8 +6,6 @@ use lib.ListN.{length}
 use Rattle.octets.specs.Text.{Text}
 use Rattle.calls.specs.Outcome.{Outcome}
 use Rattle.outcome.specs.Report.{report, turned, replied}
-use Rattle.partner.specs.declared.Entry.{Entry}
-use Rattle.image.specs.Places.{entry-at}
 use Rattle.image.proofs.Steps.{was-nothing, was-at}
 use Rattle.calls.specs.Calls.{build-rsi}
 use Rattle.outcome.specs.declared.Asked.{Asked}

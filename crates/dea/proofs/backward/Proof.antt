@@ -1,5 +1,5 @@
 -- The iterations still to come, from the halves so far, give the whole.
-use mathlib.Core.Path.{_≡_, refl, sym, ap, _∙_}
+use mathlib.Core.Path.{_≡_, sym, ap, _∙_}
 use mathlib.Core.List.{reverse}
 use Prim.Native.Nat.{ℕ, suc, _≤_, _<_, _-_, _^_}
 use lib.ListN.{length, take, getD}

@@ -1,6 +1,6 @@
 -- The number so far and the bytes from i on, zero past the end, are the first block.
 use mathlib.Core.Path.{_≡_, refl}
-use Prim.Native.Nat.{ℕ, _-_, _*_, _^_, _≤_, _<_}
+use Prim.Native.Nat.{_-_, _*_, _^_, _≤_, _<_}
 use lib.ListN.{drop}
 use Rattle.octets.specs.Number.{number, number-after}
 use Rattle.dea.specs.Chain.{first-block}

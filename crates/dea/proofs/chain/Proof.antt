@@ -1,6 +1,5 @@
 -- The output so far, chained over what is left of the text, is the whole.
 use mathlib.Core.Path.{_≡_, ap, _∙_}
-use mathlib.Core.List.{List}
 use Prim.Native.Nat.{ℕ, _+_, _-_, _/_, _≤_}
 use lib.ListN.{length, drop}
 use lib.Bits.{bitXor}

@@ -1,6 +1,6 @@
 -- The iterations still to come, from the halves so far, give the whole.
 use mathlib.Core.Path.{_≡_, refl, _∙_}
-use Prim.Native.Nat.{ℕ, _≤_, _<_, _-_, _^_}
+use Prim.Native.Nat.{_≤_, _<_, _-_, _^_}
 use lib.ListN.{length, drop, getD}
 use Rattle.dea.specs.Dea.{iterate}
 use Rattle.dea.proofs.Laws.{step-lt}

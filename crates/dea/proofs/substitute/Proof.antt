@@ -1,6 +1,6 @@
 -- The bits so far and what the boxes from i on give are the whole; i boxes give 4 i bits.
 use mathlib.Core.Path.{_≡_, refl}
-use Prim.Native.Nat.{ℕ, _+_, _-_, _*_, _^_, _≤_, _<_}
+use Prim.Native.Nat.{_-_, _*_, _^_, _≤_, _<_}
 use lib.ListN.{drop}
 use Rattle.dea.specs.Tables.{boxes as selections}
 use Rattle.dea.specs.Dea as dea

@@ -1,5 +1,5 @@
 -- `face::date_in` meets its contract: 12 bytes over 12. Assumes nothing.
-use mathlib.Core.Path.{_≡_, ap, _∙_}
+use mathlib.Core.Path.{ap, _∙_}
 use Prim.Native.Nat.{_+_}
 use native.Mathlib.Omega.{arith}
 use Rattle.octets.specs.Text.{Text}

@@ -1,9 +1,8 @@
 -- `face::key_request_in` meets its contract, part by part. Assumes nothing.
-use mathlib.Core.Path.{_≡_, ap, _∙_}
+use mathlib.Core.Path.{ap, _∙_}
 use Prim.Native.Nat.{_+_}
 use native.Mathlib.Omega.{arith}
 use lib.ListN.{getD}
-use Rattle.octets.specs.Text.{Text}
 use Rattle.octets.proofs.Comparing.{octets-lent}
 use Rattle.partner.specs.Entry.{name-of}
 use Rattle.face.specs.Request.{part}

@@ -1,5 +1,5 @@
 -- `face::put_date` meets its contract: the digits, then the zeros. Assumes nothing.
-use mathlib.Core.Path.{_≡_, refl, _∙_}
+use mathlib.Core.Path.{_≡_, _∙_}
 use native.Mathlib.Omega.{arith}
 use lib.ListN.{length, length-append}
 use Rattle.octets.proofs.Writing.{wrote-over, wrote-over-rest}

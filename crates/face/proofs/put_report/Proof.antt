@@ -1,8 +1,8 @@
 -- `face::put_report` meets its contract: the report fills its 32 bytes. Assumes nothing.
-use mathlib.Core.Path.{_≡_, sym, ap, _∙_}
+use mathlib.Core.Path.{_≡_, ap, _∙_}
 use mathlib.Core.List.{_++_, append-nil}
 use native.Mathlib.Omega.{arith}
-use lib.ListN.{length, drop, drop-of-length-le}
+use lib.ListN.{length, drop-of-length-le}
 use Rattle.octets.specs.Text.{Text}
 use Rattle.face.specs.Report.{report-bytes}
 use borrow.Author.Needs.{needs}

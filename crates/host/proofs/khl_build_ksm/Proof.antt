@@ -1,5 +1,5 @@
 -- `host::khl_build_ksm` meets its contract: the call's own, and its report. Assumes nothing.
-use mathlib.Core.Path.{_≡_, ap, _∙_}
+use mathlib.Core.Path.{ap, _∙_}
 use lib.ListN.{length}
 use Rattle.octets.specs.Text.{Text}
 use Rattle.calls.specs.declared.Request.{Request}

@@ -3,7 +3,6 @@ use mathlib.Core.Path.{_≡_, sym, ap, _∙_}
 use mathlib.Core.Bool.{Bool, true, false, _&&_}
 use Prim.Native.Nat.{_+_}
 use borrow.Author.Needs.{needs}
-use lib.ListN.{getD}
 use Rattle.octets.specs.Text.{Text}
 use Rattle.partner.specs.Legal.{legal}
 use Rattle.image.specs.Pass.{identity-at, apart-from}

@@ -43,7 +43,6 @@ use Rattle.sight.specs.Aim.{at-partner}
 use Rattle.sight.specs.Sight.{survey, shown}
 use Rattle.row.specs.Calls.{asked}
 use Rattle.partner.proofs.Entry as T
-use Rattle.partner.proofs.Entry.Laws as T′
 use Rattle.sight.proofs.aims.Aim as N
 use Rattle.sight.proofs.aims.Aim.Laws as N′
 use Rattle.sight.proofs.Sight as Z

@@ -42,7 +42,6 @@ use denote.Triple.Table.{entered, cited}
 use denote.Triple.Walked.{Stays, stay-none-slice, stay-none, gave-slice, walkOf, goes-none-slice, goes-none, goes-gave-slice, Walks, ends-at, walked, walk-meets}
 use denote.Triple.Clauses.{ensured, lasts, Lasts}
 use denote.Exit.{yes}
-use Rattle.octets.specs.Text.{Text}
 use Rattle.outcome.specs.Report.{turned, replied, report}
 use Rattle.calls.specs.Calls as every
 use Rattle.sight.specs.Aim.{at-partner}
@@ -65,7 +64,6 @@ use Rattle.outcome.proofs.Report.Laws as Rep′
 use Rattle.calls.proofs.Request as Req
 use Rattle.calls.proofs.Request.Laws as Req′
 use Rattle.partner.proofs.Entry as T
-use Rattle.partner.proofs.Entry.Laws as T′
 use Rattle.outcome.proofs.Turned as Tur
 use Rattle.outcome.proofs.Turned.Laws as Tur′
 use Rattle.outcome.proofs.Asked as Y

@@ -49,7 +49,6 @@ use Rattle.sight.specs.declared.Sight.{Sight}
 use Rattle.sight.proofs.aims.Aim as N
 use Rattle.sight.proofs.aims.Aim.Laws as N′
 use Rattle.partner.proofs.Entry as T
-use Rattle.partner.proofs.Entry.Laws as T′
 use Rattle.sight.proofs.Sight as Z
 use Rattle.sight.proofs.Sight.Laws as Z′
 use Rattle.sight.proofs.aims.ours as ours′

@@ -43,7 +43,6 @@ use denote.Triple.Walked.{Stays, stay-none-slice, stay-none, gave-slice, walkOf,
 use denote.Triple.Clauses.{ensured, lasts, Lasts}
 use denote.Exit.{yes}
 use denote.Enum.Laws as LE
-use Rattle.octets.specs.Text.{Text}
 use Rattle.outcome.specs.Report.{turned, report}
 use Rattle.calls.specs.Calls as every
 use Rattle.sight.specs.Aim.{at-free-slot}
@@ -63,7 +62,6 @@ use Rattle.sight.proofs.aims.Aim.Laws as N′
 use Rattle.outcome.proofs.Report as Rep
 use Rattle.outcome.proofs.Report.Laws as Rep′
 use Rattle.partner.proofs.Entry as T
-use Rattle.partner.proofs.Entry.Laws as T′
 use Rattle.keying.proofs.Top as Tp
 use Rattle.keying.proofs.Top.Laws as Tp′
 use Rattle.outcome.proofs.Turned as Tur

@@ -45,7 +45,6 @@ use Rattle.row.proofs.Walk.{value, shared, unique, hears, hears-last, b
 use Rattle.row.proofs.Starting.{read-is}
 use Rattle.partner.specs.declared.Entry.{Entry}
 use Rattle.partner.proofs.Entry as T
-use Rattle.partner.proofs.Entry.Laws as T′
 use Rattle.row.proofs.stored.read_answer as read-answer′
 use Rattle.row.proofs.stored.read_answer.Symbol as read-answer-def
 use Rattle.row.proofs.stored.read_answer.Symbol.{name as #row·read-answer}

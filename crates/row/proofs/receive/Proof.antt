@@ -42,7 +42,6 @@ use denote.Triple.Table.{entered, cited}
 use denote.Triple.Walked.{Stays, stay-none-slice, gave-slice, walkOf, goes-none-slice, goes-gave-slice, Walks, ends-at, walked, walk-meets}
 use denote.Triple.Clauses.{ensured, lasts, Lasts}
 use denote.Exit.{yes}
-use Rattle.octets.specs.Text.{Text}
 use Rattle.outcome.specs.Report.{turned, replied, report}
 use Rattle.calls.specs.Calls as every
 use Rattle.sight.specs.Aim.{of-text}
@@ -62,7 +61,6 @@ use Rattle.sight.proofs.aims.Aim.Laws as N′
 use Rattle.outcome.proofs.Report as Rep
 use Rattle.outcome.proofs.Report.Laws as Rep′
 use Rattle.partner.proofs.Entry as T
-use Rattle.partner.proofs.Entry.Laws as T′
 use Rattle.outcome.proofs.Turned as Tur
 use Rattle.outcome.proofs.Turned.Laws as Tur′
 use Rattle.outcome.proofs.Asked as Y

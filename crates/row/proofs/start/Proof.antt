@@ -45,7 +45,6 @@ use Rattle.row.proofs.Walk.{value, shared, unique, hears, hears-last, b
 use Rattle.row.proofs.Starting.{start-is}
 use Rattle.partner.specs.declared.Entry.{Entry}
 use Rattle.partner.proofs.Entry as T
-use Rattle.partner.proofs.Entry.Laws as T′
 use Rattle.row.proofs.stored.start_answer as start-answer′
 use Rattle.row.proofs.stored.start_answer.Symbol as start-answer-def
 use Rattle.row.proofs.stored.start_answer.Symbol.{name as #row·start-answer}

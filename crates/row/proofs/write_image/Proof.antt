@@ -60,7 +60,6 @@ use Rattle.partner.specs.declared.Entry.{Entry}
 use Rattle.outcome.proofs.Report as Rep
 use Rattle.outcome.proofs.Report.Laws as Rep′
 use Rattle.partner.proofs.Entry as T
-use Rattle.partner.proofs.Entry.Laws as T′
 use Rattle.row.proofs.legal as legal′
 use Rattle.row.proofs.legal.Symbol as legal-def
 use Rattle.row.proofs.legal.Symbol.{name as #row·legal}

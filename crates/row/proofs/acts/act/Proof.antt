@@ -3,9 +3,7 @@ use lib.ListN.{length}
 use Rattle.calls.specs.Outcome.{Turn}
 use Rattle.outcome.specs.Report.{turned, replied}
 use Rattle.row.proofs.Acting.{act-refused, act-turned, refused-is, refused-reply}
-use mathlib.Core.Path.{_≡_, sym, ap, _∙_}
-use mathlib.Core.Bool.{Bool, true, false, not, _&&_, _||_, cond}
-use borrow.Author.Tests.{not-true, not-false}
+use mathlib.Core.Path.{sym, ap, _∙_}
 use borrow.Author.Needs.{needs}
 use Rattle.row.specs.Acts.{act}
 use Rattle.row.proofs.acts.act.Statement.{statement}

@@ -1,7 +1,6 @@
 use borrow.Author.Needs.{needs}
-use mathlib.Core.Path.{_≡_, sym, ap, _∙_}
-use mathlib.Core.Bool.{Bool, true, false, not, _&&_, _||_, cond}
-use borrow.Author.Tests.{not-true, not-false}
+use mathlib.Core.Path.{_≡_, sym, _∙_}
+use mathlib.Core.Bool.{true, false}
 use Rattle.row.specs.Acts.{replies, no-room}
 use Rattle.row.proofs.acts.no_room.Statement.{statement}
 use Rattle.row.proofs.acts.no_room.Tie as tie

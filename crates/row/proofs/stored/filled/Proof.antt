@@ -1,8 +1,8 @@
 -- `row::stored::filled` meets its contract: test by test. Assumes nothing.
-use mathlib.Core.Path.{_≡_, sym, ap, _∙_}
-use mathlib.Core.Bool.{Bool, true, false, not, cond}
+use mathlib.Core.Path.{_≡_}
+use mathlib.Core.Bool.{true, false}
 use lib.Dec.{eqb}
-use borrow.Author.Tests.{eq-eqb, ne-eqb, not-true, not-false}
+use borrow.Author.Tests.{eq-eqb, ne-eqb}
 use Rattle.row.specs.Stored.{filled}
 use Rattle.row.proofs.stored.filled.Statement.{statement}
 use Rattle.row.proofs.stored.filled.Tie as tie

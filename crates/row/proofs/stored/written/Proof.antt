@@ -1,5 +1,5 @@
 -- `row::stored::written` meets its contract: a refusal, or the front and its report. Assumes nothing.
-use mathlib.Core.Path.{_≡_, sym, ap, _∙_}
+use mathlib.Core.Path.{sym, ap, _∙_}
 use Rattle.calls.specs.declared.Date.{Date}
 use Rattle.outcome.specs.declared.Telling.the-variants.{Nothing}
 use borrow.Author.Tests.{eq-eqb, ne-eqb}
