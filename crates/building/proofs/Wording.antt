@@ -27,7 +27,7 @@ use Rattle.writer.specs.declared.Vector.{Vector}
 use Rattle.writer.specs.declared.Vector.the-variants.{Absent, Plain, Enciphered}
 use Rattle.writer.specs.Contents.{kd-of, first, second-of, iv-of}
 use Rattle.messages.specs.Readings.{unsealed-ksm, ksm-reading, rsi-reading}
-use Rattle.messages.specs.Answers.{writes, answer, buffer}
+use Rattle.messages.specs.Answers.{writes, answer, length-of, buffer}
 use Rattle.messages.proofs.Claims as messages
 use Rattle.calls.specs.declared.KeyRequest.{KeyRequest}
 use Rattle.calls.specs.declared.Request.{Request}
@@ -38,13 +38,13 @@ use Rattle.calls.specs.Build.{bad-key, wants-idk1, wants-idk2, asked, kd-for, i
 use Rattle.calls.proofs.Requests.{Formed, Keyed, formed, one, two, not-two, idk1-legal}
 use Rattle.calls.proofs.Written.{sent, sent-written, to-them}
 use Rattle.outcome.specs.Acts.{sound}
-use Rattle.building.specs.Parts.{written, dated, key-for, keys-for, vector-for, rsi-text, size, fronted, Ready}
+use Rattle.building.specs.Parts.{written, dated, key-for, keys-for, vector-for, rsi-text, fronted, Ready}
 use Rattle.building.proofs.Judging.{Good}
 
 -- ---- what a writer leaves of a legal reading where there is room
 
-pub lengthened : (r : Reading) (l : Text) → 256 ≤ length l → legal r ≡ true → size (answer r l) ≡ length (print r)
-lengthened r l h k = ap size (messages.written r l h k)
+pub lengthened : (r : Reading) (l : Text) → 256 ≤ length l → legal r ≡ true → length-of (answer r l) ≡ length (print r)
+lengthened r l h k = ap length-of (messages.written r l h k)
 
 pub fronts : (r : Reading) (l : Text) → 256 ≤ length l → legal r ≡ true → buffer r l ≡ fronted (print r) l
 unfolding buffer writes fronted
@@ -184,7 +184,7 @@ module _ (own : Text) (e : Entry) (q : Request) (lawful : partner.legal e ≡ tr
 
 -- a good request is written whole
 pub ksm-wrote : {t : Turn} (own : Text) (e : Entry) (q : Request) (l : Text) → Good own e (length l) q t
-    → (size (answer (reading-for own e q) l) ≡ length (ksm-text own e q))
+    → (length-of (answer (reading-for own e q) l) ≡ length (ksm-text own e q))
     × (buffer (reading-for own e q) l ≡ fronted (ksm-text own e q) l)
 unfolding sound
 ksm-wrote own e q l g =
@@ -220,7 +220,7 @@ module _ (own : Text) (e : Entry) (q : Request) where
 -- ---- an RSI
 
 pub rsi-wrote : (own : Text) (e : Entry) (s : ℕ) (l : Text) → Ready own e (length l) → s < 12
-    → (size (answer (rsi-reading (bare (e .identity .bytes)) own s) l) ≡ length (rsi-text own e s))
+    → (length-of (answer (rsi-reading (bare (e .identity .bytes)) own s) l) ≡ length (rsi-text own e s))
     × (buffer (rsi-reading (bare (e .identity .bytes)) own s) l ≡ fronted (rsi-text own e s) l)
 unfolding sound rsi-text rsi-reading
 rsi-wrote own e s l g k =

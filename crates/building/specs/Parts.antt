@@ -17,8 +17,6 @@ use Rattle.writer.specs.declared.Keys.{Keys}
 use Rattle.writer.specs.declared.Keys.the-variants.{One, Two}
 use Rattle.writer.specs.declared.Vector.{Vector}
 use Rattle.writer.specs.declared.Vector.the-variants.{Absent, Plain, Enciphered}
-use Rattle.messages.specs.declared.Written.{Written}
-use Rattle.messages.specs.declared.Written.the-variants.{Length, Nothing}
 use Rattle.partner.specs.declared.Entry.{Entry}
 use Rattle.partner.specs.Entry.{top-of, keys-in}
 use Rattle.calls.specs.declared.KeyRequest.{KeyRequest}
@@ -53,11 +51,6 @@ vector-for q =
 -- the text of an RSI
 unfoldable pub rsi-text : Text → Entry → ℕ → Text
 rsi-text own e s = print (to-partner own e (rsi (record { svr = s; edc = none })))
-
--- the length of what was written
-abbrev pub size : Written → ℕ
-size (Length n) = n
-size Nothing = 0
 
 -- a text over the front of a buffer
 unfoldable pub fronted : Text → Text → Text

@@ -7,7 +7,6 @@ ghost use Rattle.calls.specs.Build as building;
 ghost use Rattle.building.specs.Parts as parts;
 use calls::KeyRequest;
 use calls::Request;
-use messages::Written;
 use partner::DataKey;
 use partner::Entry;
 use partner::KeySet;
@@ -94,16 +93,6 @@ fn vector(q: Request) -> Vector
     Vector::Absent
 }
 
-// The length of what was written.
-fn size(w: Written) -> usize
-    ensures { λ r. ⌜ r ≡ parts.size w ⌝ }
-{
-    match w {
-        Written::Length(n) => n,
-        Written::Nothing => 0,
-    }
-}
-
 // The KSM of a good request over the front of the reply buffer, with the next send count; its length.
 pub(crate) fn write(own: &[u8], e: Entry, q: Request, reply: &mut [u8]) -> usize
     requires { ⌜ acts.build-ksm (now own) e (length (now reply)) q .outcome .answer ≡ 0 ⌝ }
@@ -118,7 +107,7 @@ pub(crate) fn write(own: &[u8], e: Entry, q: Request, reply: &mut [u8]) -> usize
     let second_name = second.name;
     let date = q.date;
     let mac_key = keying::mac_key(partner::data_keys(outgoing(q)));
-    size(messages::write_ksm(
+    messages::length_of(messages::write_ksm(
         reply,
         octets::bare(&identity.bytes),
         own,
@@ -142,5 +131,5 @@ pub(crate) fn write_rsi(own: &[u8], e: Entry, service: u64, reply: &mut [u8]) ->
     ensures { λ r. ⌜ now (reply .exit) ≡ parts.fronted (parts.rsi-text (now (own .entry)) e service) (now (reply .entry)) ⌝ }
 {
     let identity = e.identity;
-    size(messages::write_rsi(reply, octets::bare(&identity.bytes), own, service))
+    messages::length_of(messages::write_rsi(reply, octets::bare(&identity.bytes), own, service))
 }

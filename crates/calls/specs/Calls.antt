@@ -1,5 +1,5 @@
 -- Every call, and the order of its answers (document 01, "Answers").
-use mathlib.Core.Bool.{not, _&&_}
+use mathlib.Core.Bool.{Bool, not, _&&_}
 use mathlib.Core.List.{List, [], _∷_}
 use mathlib.Core.Option.{Option, none, some}
 use Prim.Native.Nat.{ℕ}
@@ -71,9 +71,13 @@ abbrev pub placed : Table → Option (List Entry) → After
 placed t none = refuse t 9
 placed t (some slots) = record { outcome = success [] nothing; table = holding t slots }
 
+-- 10: identity malformed, our own, or taken
+abbrev pub bad-identity : Table → Text → Bool
+bad-identity t id = not (is-name id && differs (filled id) (t .own ∷ identities (t .slots)))
+
 unfoldable pub loading : Table → Text → Text → Top → After
 loading t id name top =
-    if not (is-name id && differs (filled id) (t .own ∷ identities (t .slots))) then refuse t 10 else
+    if bad-identity t id then refuse t 10 else
     if not (is-name name) then refuse t 12 else
     if not (odd-top top) then refuse t 11 else
     placed t (place (loaded (name-of id) (name-of name) top) (t .slots))

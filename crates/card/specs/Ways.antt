@@ -8,19 +8,17 @@ use Rattle.octets.specs.Part.{bare}
 use Rattle.keying.specs.declared.Top.{Top}
 use Rattle.csm.specs.Message.{Reading}
 use Rattle.reader.specs.Seen.{head-seen}
-use Rattle.partner.specs.Entry.{filled, zero-name}
+use Rattle.partner.specs.Entry.{filled}
 use Rattle.image.specs.Image.{found}
 use Rattle.image.specs.Places.{own-in, entry-at, place-of}
 use Rattle.image.specs.Results.{put-back}
-use Rattle.calls.specs.declared.KeyRequest.{KeyRequest}
-use Rattle.calls.specs.declared.Request.{Request}
 use Rattle.calls.specs.Words.{if_then_else_}
 use Rattle.calls.specs.Outcome.{Outcome, Turn, refusal}
 use Rattle.outcome.specs.declared.Act.{Act}
 use Rattle.outcome.specs.declared.Asked.{Asked}
 use Rattle.outcome.specs.declared.Report.{Report}
 use Rattle.outcome.specs.declared.Telling.the-variants.{Nothing}
-use Rattle.outcome.specs.Acts.{act}
+use Rattle.outcome.specs.Acts.{no-request, act}
 use Rattle.outcome.specs.Report.{no-date}
 use Rattle.card.specs.declared.way.Opening.{Opening}
 use Rattle.card.specs.declared.way.Opening.the-variants as heading
@@ -45,21 +43,6 @@ unfoldable pub is-new : Text → Text → Bool
 is-new id image = is-name id && (not (same (own-in image) (filled id)) && not (found (place-of (filled id) image)))
 
 -- ---- the turn
-
--- no key, no request
-abbrev pub no-key : KeyRequest
-no-key = record { key = 0; flags = 0; name = zero-name }
-
-abbrev pub no-request : Request
-no-request = record {
-  count = 0;
-  first = no-key;
-  second = no-key;
-  kind = 0;
-  iv = 0;
-  dated = 0;
-  date = no-date;
-}
 
 -- an act without a request
 abbrev pub plain : Act → Asked

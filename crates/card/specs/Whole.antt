@@ -1,22 +1,20 @@
 -- The calls that show an entry or write a whole image to a lent buffer: what they write stands as the reply of their
 -- outcome (document 01, "Answers" and "Stored image").
-use mathlib.Core.Bool.{not, _&&_}
-use mathlib.Core.List.{[], _∷_}
+use mathlib.Core.List.{[]}
 use mathlib.Core.Option.{Option, none, some}
 use Prim.Native.Nat.{ℕ}
 use lib.Dec.{eqb, ltb}
 use lib.ListN.{length, take, drop}
-use Rattle.octets.specs.Text.{Text, is-name}
+use Rattle.octets.specs.Text.{Text}
 use Rattle.octets.specs.Number.{number}
 use Rattle.keying.specs.declared.Top.{Top}
 use Rattle.keying.specs.declared.Top.the-variants.{Single, Pair}
-use Rattle.partner.specs.Entry.{filled}
 use Rattle.partner.specs.Record.{entry-bytes}
-use Rattle.image.specs.Table.{Table, identities, differs}
+use Rattle.image.specs.Table.{Table}
 use Rattle.image.specs.Image.{decode, encode}
 use Rattle.calls.specs.Words.{if_then_else_}
 use Rattle.calls.specs.Outcome.{Outcome, Told, nothing, service, keys, confirmation, failure, shown, refusal, success}
-use Rattle.calls.specs.Calls.{After, load, remove, ask, run, start}
+use Rattle.calls.specs.Calls.{After, load, remove, ask, bad-identity, run, start}
 
 -- ---- ask for an entry
 
@@ -65,8 +63,7 @@ top-in key =
 
 -- load: 10, 12, 11, 9; a key that is none is 12, as a bad key name
 unfoldable pub load-with : Table → Text → Text → Option Top → Outcome
-load-with t id name none =
-    if not (is-name id && differs (filled id) (t .own ∷ identities (t .slots))) then refusal 10 else refusal 12
+load-with t id name none = if bad-identity t id then refusal 10 else refusal 12
 load-with t id name (some top) = delivering (run t (load id name top))
 
 -- 13, 6, then these

@@ -8,14 +8,11 @@ ghost use Rattle.image.specs.Places as places;
 ghost use Rattle.image.specs.Results as results;
 ghost use Rattle.outcome.specs.Report as report;
 ghost use Rattle.card.specs.Ways as ways;
-use calls::KeyRequest;
-use calls::Request;
 use image::Place;
 use outcome::Act;
 use outcome::Asked;
 use outcome::Report;
 use outcome::Turned;
-use partner::Name;
 use reader::Head;
 use reader::Message;
 
@@ -104,24 +101,9 @@ pub fn is_new(image: &[u8], partner: &[u8]) -> bool
 pub fn plain(act: Act) -> Asked
     ensures { λ r. ⌜ r ≡ ways.plain act ⌝ }
 {
-    let name = Name { bytes: [0; 16] };
-    let key = KeyRequest {
-        key: 0,
-        flags: 0,
-        name: name,
-    };
-    let request = Request {
-        count: 0,
-        first: key,
-        second: key,
-        kind: 0,
-        iv: 0,
-        dated: 0,
-        date: outcome::no_date(),
-    };
     Asked {
         act: act,
-        request: request,
+        request: outcome::no_request(),
     }
 }
 

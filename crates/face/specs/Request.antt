@@ -1,17 +1,15 @@
 -- The 73 bytes of a request, as the C face has them: number of keys 1; twice key 8, flags 1, name 16; IV's kind 1, IV 8;
 -- date flag 1, date 12. Numbers have the high byte first. Another length is 12: a request of no keys.
 use mathlib.Core.Bool.{cond}
-use mathlib.Core.List.{[]}
 use Prim.Native.Nat.{ℕ, _+_}
 use lib.Dec.{eqb}
 use lib.ListN.{length, take, drop, getD}
 use Rattle.octets.specs.Text.{Text}
 use Rattle.octets.specs.Number.{number}
-use Rattle.partner.specs.Entry.{name-of}
 use Rattle.calls.specs.declared.Date.{Date}
 use Rattle.calls.specs.declared.KeyRequest.{KeyRequest}
 use Rattle.calls.specs.declared.Request.{Request}
-use Rattle.outcome.specs.Report.{no-date}
+use Rattle.outcome.specs.Acts.{no-request}
 
 -- k bytes from a place on
 abbrev pub part : ℕ → ℕ → Text → Text
@@ -36,21 +34,6 @@ whole-in s = record {
   iv = number (part 8 52 s);
   dated = getD s 60 0;
   date = date-in 61 s;
-}
-
--- no key, no IV, no date
-abbrev pub no-key-request : KeyRequest
-no-key-request = record { key = 0; flags = 0; name = name-of [] }
-
-abbrev pub no-request : Request
-no-request = record {
-  count = 0;
-  first = no-key-request;
-  second = no-key-request;
-  kind = 0;
-  iv = 0;
-  dated = 0;
-  date = no-date;
 }
 
 unfoldable pub request-in : Text → Request

@@ -204,38 +204,12 @@ fn whole_in(s: &[u8]) -> Request
     }
 }
 
-// A data key that nobody asked for.
-fn no_key_request() -> KeyRequest
-    ensures { λ r. ⌜ r ≡ requests.no-key-request ⌝ }
-{
-    KeyRequest {
-        key: 0,
-        flags: 0,
-        name: partner::name_of(b""),
-    }
-}
-
-// A request of no keys: the answer to it is 12.
-pub fn no_request() -> Request
-    ensures { λ r. ⌜ r ≡ requests.no-request ⌝ }
-{
-    Request {
-        count: 0,
-        first: no_key_request(),
-        second: no_key_request(),
-        kind: 0,
-        iv: 0,
-        dated: 0,
-        date: outcome::no_date(),
-    }
-}
-
 // The request that the bytes are; of another length than 73 one of no keys.
 pub fn request_in(s: &[u8]) -> Request
     ensures { λ r. ⌜ r ≡ requests.request-in (now (s .entry)) ⌝ }
 {
     if s.len() != 73 {
-        return no_request();
+        return outcome::no_request();
     }
     whole_in(s)
 }

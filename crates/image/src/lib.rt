@@ -29,7 +29,7 @@ pub enum Place {
 // ---- records
 
 // The length of a record by its kind: a kind that is added later is one case more here.
-fn record_length(kind: u8) -> usize
+pub fn record_length(kind: u8) -> usize
     ensures { λ r. ⌜ r ≡ images.record-length kind ⌝ }
 {
     if kind == 2 { 157 } else { 1 }
@@ -43,7 +43,7 @@ fn smaller(a: usize, b: usize) -> usize
 }
 
 // The byte at a place, 0 past the end.
-fn byte_at(image: &[u8], at: usize) -> u8
+pub fn byte_at(image: &[u8], at: usize) -> u8
     ensures { λ r. ⌜ r ≡ getD (now (image .entry)) at 0 ⌝ }
 {
     if at < image.len() { image[at] } else { 0 }

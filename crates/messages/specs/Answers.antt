@@ -1,6 +1,7 @@
 -- What a writer answers, and what the reply buffer holds then.
 use mathlib.Core.Bool.{Bool, cond, _&&_}
 use mathlib.Core.List.{_++_}
+use Prim.Native.Nat.{ℕ}
 use lib.Dec.{leb}
 use lib.ListN.{length, drop}
 use Rattle.octets.specs.Text.{Text}
@@ -19,3 +20,8 @@ answer r l = cond (writes r l) (Length (length (print r))) Nothing
 -- its text, and behind it the bytes that were there
 unfoldable pub buffer : Reading → Text → Text
 buffer r l = cond (writes r l) (print r ++ drop (length (print r)) l) l
+
+-- how many bytes were written: none where nothing was
+abbrev pub length-of : Written → ℕ
+length-of (Length n) = n
+length-of Nothing = 0

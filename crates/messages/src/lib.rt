@@ -14,6 +14,16 @@ pub enum Written {
     Nothing,
 }
 
+// How many bytes were written: none where nothing was.
+pub fn length_of(written: Written) -> usize
+    ensures { λ r. ⌜ r ≡ answers.length-of written ⌝ }
+{
+    match written {
+        Written::Length(length) => length,
+        Written::Nothing => 0,
+    }
+}
+
 // CTP and CTR of an ESM.
 pub enum Counts {
     Without,

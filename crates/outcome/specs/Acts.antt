@@ -7,16 +7,34 @@ use lib.Dec.{ltb}
 use Rattle.octets.specs.Text.{Text, is-name}
 use Rattle.csm.specs.Message.{Reading, read}
 use Rattle.partner.specs.declared.Entry.{Entry}
+use Rattle.partner.specs.Entry.{zero-name}
 use Rattle.partner.specs.Legal.{legal}
+use Rattle.calls.specs.declared.KeyRequest.{KeyRequest}
 use Rattle.calls.specs.declared.Request.{Request}
 use Rattle.calls.specs.Words.{if_then_else_}
 use Rattle.calls.specs.Outcome.{Turn, refused}
 use Rattle.calls.specs.Receive as by-class
 use Rattle.calls.specs.Build as building
 use Rattle.calls.specs.Calls.{emptied}
+use Rattle.outcome.specs.Report.{no-date}
 use Rattle.outcome.specs.declared.Act.{Act}
 use Rattle.outcome.specs.declared.Asked.{Asked}
 use Rattle.outcome.specs.declared.Act.the-variants.{Receive, BuildKsm, BuildRsi, GiveUp, Remove}
+
+-- a request of no keys, zero throughout: what goes with an act that asks for none
+abbrev pub no-key : KeyRequest
+no-key = record { key = 0; flags = 0; name = zero-name }
+
+abbrev pub no-request : Request
+no-request = record {
+  count = 0;
+  first = no-key;
+  second = no-key;
+  kind = 0;
+  iv = 0;
+  dated = 0;
+  date = no-date;
+}
 
 -- our identity and the entry as a legal table has them
 unfoldable pub sound : Text → Entry → Bool

@@ -4,8 +4,10 @@ ghost use lib.ListN.{length};
 ghost use Rattle.outcome.specs.Report as report;
 ghost use Rattle.outcome.specs.Acts as acts;
 use calls::Date;
+use calls::KeyRequest;
 use calls::Request;
 use partner::Entry;
+use partner::Name;
 
 // What a KSM that was accepted hands out: its IV, zero where it has none, and whether it has a date.
 pub struct Handed {
@@ -58,6 +60,26 @@ pub fn no_date() -> Date
     ensures { λ r. ⌜ r ≡ report.no-date ⌝ }
 {
     Date { digits: [0; 12] }
+}
+
+// A request of no keys: zero throughout, for what asks for none.
+pub fn no_request() -> Request
+    ensures { λ r. ⌜ r ≡ acts.no-request ⌝ }
+{
+    let key = KeyRequest {
+        key: 0,
+        flags: 0,
+        name: Name { bytes: [0; 16] },
+    };
+    Request {
+        count: 0,
+        first: key,
+        second: key,
+        kind: 0,
+        iv: 0,
+        dated: 0,
+        date: no_date(),
+    }
 }
 
 // A refusal: every other part is zero or empty.

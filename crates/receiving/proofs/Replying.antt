@@ -16,7 +16,7 @@ use Rattle.csm.proofs.LengthLaws.{known, known-legal}
 use Rattle.messages.specs.declared.Counts.{Counts}
 use Rattle.messages.specs.declared.Counts.the-variants.{Without, Both}
 use Rattle.messages.specs.Readings.{rsm-reading, esm-reading}
-use Rattle.messages.specs.Answers.{writes, answer, buffer}
+use Rattle.messages.specs.Answers.{writes, answer, length-of, buffer}
 use Rattle.partner.specs.declared.KeySet.{KeySet}
 use Rattle.partner.specs.declared.Entry.{Entry}
 use Rattle.partner.specs.Entry.{keys-in}
@@ -27,7 +27,7 @@ use Rattle.calls.specs.Receive.{to-partner, esm-body, error, rsm-body, rsm-text
 use Rattle.calls.proofs.Readings.{rsm-legal}
 use Rattle.outcome.specs.Report.{turned, report, replied, complained-turned}
 use Rattle.outcome.specs.Acts.{sound}
-use Rattle.receiving.specs.Stages.{Ready, counts-in, length-of}
+use Rattle.receiving.specs.Stages.{Ready, counts-in}
 
 -- a legal reading is written where there is room
 pub record Written-there (r : Reading) (l : Text) : Type 0 where

@@ -16,8 +16,6 @@ use Rattle.csm.specs.Message.{Ksm}
 use Rattle.csm.specs.Covered.{covered}
 use Rattle.messages.specs.declared.Counts.{Counts}
 use Rattle.messages.specs.declared.Counts.the-variants.{Without, Both}
-use Rattle.messages.specs.declared.Written.{Written}
-use Rattle.messages.specs.declared.Written.the-variants as written
 use Rattle.partner.specs.declared.KeySet.{KeySet}
 use Rattle.partner.specs.declared.Entry.{Entry}
 use Rattle.partner.specs.Entry.{name-of, one-key, two-keys}
@@ -128,11 +126,6 @@ counts-between expected count = cond (bad-count expected count) (Both expected c
 abbrev pub counts-in : Counts → Option (ℕ × ℕ)
 counts-in Without = none
 counts-in (Both ctp ctr) = some (ctp, ctr)
-
--- how many bytes were written
-abbrev pub length-of : Written → ℕ
-length-of (written.Length n) = n
-length-of written.Nothing = 0
 
 -- ---- an ESM
 

@@ -8,20 +8,9 @@ ghost use Rattle.calls.specs.Receive as steps;
 ghost use Rattle.outcome.specs.Report as report;
 ghost use Rattle.receiving.specs.Stages as stages;
 use messages::Counts;
-use messages::Written;
 use outcome::Turned;
 use partner::Entry;
 use partner::KeySet;
-
-// How many bytes were written.
-fn length_of(written: Written) -> usize
-    ensures { λ r. ⌜ r ≡ stages.length-of written ⌝ }
-{
-    match written {
-        Written::Length(length) => length,
-        Written::Nothing => 0,
-    }
-}
 
 // 4 with these letters: an ESM, the entry as it was.
 pub(crate) fn error(own: &[u8], e: Entry, letters: u64, counts: Counts, reply: &mut [u8]) -> Turned
@@ -32,7 +21,7 @@ pub(crate) fn error(own: &[u8], e: Entry, letters: u64, counts: Counts, reply: &
 {
     let identity = e.identity;
     let written = messages::write_esm(reply, octets::bare(&identity.bytes), own, letters, counts);
-    outcome::complained(e, letters, length_of(written))
+    outcome::complained(e, letters, messages::length_of(written))
 }
 
 // An RSM under the keys of the KSM that it answers: its length.
@@ -43,5 +32,5 @@ pub(crate) fn confirm(own: &[u8], e: Entry, set: KeySet, reply: &mut [u8]) -> us
 {
     let identity = e.identity;
     let key = keying::mac_key(partner::data_keys(set));
-    length_of(messages::write_rsm(reply, octets::bare(&identity.bytes), own, key))
+    messages::length_of(messages::write_rsm(reply, octets::bare(&identity.bytes), own, key))
 }

@@ -6,13 +6,12 @@ use lib.Dec.{eqb, ltb}
 use Rattle.octets.specs.Text.{Text, same, is-name}
 use Rattle.keying.specs.declared.Top.{Top}
 use Rattle.keying.specs.Keys.{odd-top}
-use Rattle.partner.specs.Entry.{name-of, zero-name}
+use Rattle.partner.specs.Entry.{name-of}
 use Rattle.partner.specs.Changes.{loaded}
-use Rattle.calls.specs.declared.KeyRequest.{KeyRequest}
 use Rattle.calls.specs.declared.Request.{Request}
 use Rattle.calls.specs.Outcome.{Turn, nothing, refused, done}
-use Rattle.outcome.specs.Report.{no-date}
 use Rattle.outcome.specs.Acts as turns
+use Rattle.outcome.specs.Acts.{no-request}
 use Rattle.outcome.specs.declared.Act.{Act}
 use Rattle.outcome.specs.declared.Asked.{Asked}
 use Rattle.outcome.specs.declared.Act.the-variants.{Receive, BuildKsm, BuildRsi, GiveUp, Remove}
@@ -20,20 +19,6 @@ use Rattle.sight.specs.declared.aims.Aim.{Aim}
 use Rattle.sight.specs.declared.Sight.{Sight}
 
 -- ---- what is asked; where no KSM is, its request is zero throughout
-
-abbrev pub no-key : KeyRequest
-no-key = record { key = 0; flags = 0; name = zero-name }
-
-abbrev pub no-request : Request
-no-request = record {
-  count = 0;
-  first = no-key;
-  second = no-key;
-  kind = 0;
-  iv = 0;
-  dated = 0;
-  date = no-date;
-}
 
 abbrev pub receipt : Asked
 receipt = record { act = Receive; request = no-request }

@@ -15,10 +15,6 @@ use Rattle.outcome.specs.Report.{refusal-report, no-date}
 use Rattle.image.specs.Image as images
 use Rattle.image.specs.Image.{decode, found, slots-in, slot-bytes, slots-bytes, ours}
 
--- the length of a record by its kind
-abbrev pub record-length : ℕ → ℕ
-record-length kind = images.record-length kind
-
 -- n records on from a place
 abbrev pub place : ℕ → ℕ → Text → ℕ
 place at zero image = at

@@ -3,7 +3,6 @@ ghost use mathlib.Core.Path.{_≡_};
 ghost use lib.ListN.{length};
 ghost use Rattle.outcome.specs.Report as report;
 ghost use Rattle.row.specs.Acts as acts;
-use calls::KeyRequest;
 use calls::Request;
 use keying::Top;
 use outcome::Act;
@@ -12,29 +11,8 @@ use outcome::Report;
 use outcome::Telling;
 use outcome::Turned;
 use partner::Entry;
-use partner::Name;
 use sight::Sight;
 use sight::aims::Aim;
-
-// No request.
-fn no_request() -> Request
-    ensures { λ r. ⌜ r ≡ acts.no-request ⌝ }
-{
-    let key = KeyRequest {
-        key: 0,
-        flags: 0,
-        name: Name { bytes: [0; 16] },
-    };
-    Request {
-        count: 0,
-        first: key,
-        second: key,
-        kind: 0,
-        iv: 0,
-        dated: 0,
-        date: outcome::no_date(),
-    }
-}
 
 // A text is received.
 pub fn receipt() -> Asked
@@ -42,7 +20,7 @@ pub fn receipt() -> Asked
 {
     Asked {
         act: Act::Receive,
-        request: no_request(),
+        request: outcome::no_request(),
     }
 }
 
@@ -62,7 +40,7 @@ pub fn service_message() -> Asked
 {
     Asked {
         act: Act::BuildRsi,
-        request: no_request(),
+        request: outcome::no_request(),
     }
 }
 
@@ -72,7 +50,7 @@ fn giving_up() -> Asked
 {
     Asked {
         act: Act::GiveUp,
-        request: no_request(),
+        request: outcome::no_request(),
     }
 }
 
@@ -82,7 +60,7 @@ fn removal() -> Asked
 {
     Asked {
         act: Act::Remove,
-        request: no_request(),
+        request: outcome::no_request(),
     }
 }
 

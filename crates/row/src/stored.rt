@@ -10,20 +10,6 @@ use outcome::Report;
 use outcome::Telling;
 use partner::Entry;
 
-// The byte at a place, 0 past the end.
-fn byte_at(image: &[u8], at: usize) -> u8
-    ensures { λ r. ⌜ r ≡ getD (now (image .entry)) at 0 ⌝ }
-{
-    if at < image.len() { image[at] } else { 0 }
-}
-
-// The length of a record by its kind.
-fn record_length(kind: u8) -> usize
-    ensures { λ r. ⌜ r ≡ stored.record-length kind ⌝ }
-{
-    if kind == 2 { 157 } else { 1 }
-}
-
 // Where the record of a slot stands.
 fn place_of(image: &[u8], slot: usize) -> usize
     requires { ⌜ slot ≤ 64 ⌝ }
@@ -32,7 +18,7 @@ fn place_of(image: &[u8], slot: usize) -> usize
     let mut at = 17;
     let mut left = slot;
     while 0 < left {
-        at += record_length(byte_at(image, at));
+        at += image::record_length(image::byte_at(image, at));
         left -= 1;
     }
     at
@@ -46,7 +32,7 @@ pub fn slot(image: &[u8], slot: usize) -> Entry
         return partner::empty();
     }
     let at = place_of(image, slot);
-    if byte_at(image, at) == 2 {
+    if image::byte_at(image, at) == 2 {
         return image::entry_at(image, at);
     }
     partner::empty()

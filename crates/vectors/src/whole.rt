@@ -11,14 +11,6 @@ use writer::Key;
 use writer::Keys;
 use writer::Vector;
 
-// How many bytes were written, zero where none.
-fn length(written: Written) -> usize {
-    let Written::Length(n) = written else {
-        return 0;
-    };
-    n
-}
-
 fn rsi(reply: &mut [u8], text: &[u8], m: Rsi) -> Written {
     let head = m.head;
     messages::write_rsi(
@@ -119,10 +111,10 @@ fn ksm(reply: &mut [u8], text: &[u8], m: Ksm, key: u64) -> Written {
 // The message of a text into the reply, its MAC under the key: how many bytes.
 pub(crate) fn anew(reply: &mut [u8], text: &[u8], key: u64) -> usize {
     match reader::read(text) {
-        Message::Rsi(m) => length(rsi(reply, text, m)),
-        Message::Ksm(m) => length(ksm(reply, text, m, key)),
-        Message::Rsm(m) => length(rsm(reply, text, m, key)),
-        Message::Esm(m) => length(esm(reply, text, m)),
+        Message::Rsi(m) => messages::length_of(rsi(reply, text, m)),
+        Message::Ksm(m) => messages::length_of(ksm(reply, text, m, key)),
+        Message::Rsm(m) => messages::length_of(rsm(reply, text, m, key)),
+        Message::Esm(m) => messages::length_of(esm(reply, text, m)),
         Message::Option(_) => 0,
         Message::Nothing => 0,
     }

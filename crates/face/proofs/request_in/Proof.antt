@@ -2,7 +2,8 @@
 use mathlib.Core.Path.{sym, ap, _∙_}
 use mathlib.Core.Bool.{Bool, cond}
 use borrow.Author.Tests.{eq-eqb, ne-eqb}
-use Rattle.face.specs.Request.{whole-in, no-request, request-in}
+use Rattle.outcome.specs.Acts.{no-request}
+use Rattle.face.specs.Request.{whole-in, request-in}
 use borrow.Author.Needs.{needs}
 use Rattle.face.proofs.request_in.Statement.{statement}
 use Rattle.face.proofs.request_in.Tie as tie

@@ -4,8 +4,7 @@ use lib.ListN.{length}
 use Rattle.keying.specs.Mac.{mac-key}
 use Rattle.csm.specs.Message.{Reading}
 use Rattle.partner.specs.Entry.{keys-in}
-use Rattle.messages.specs.Answers.{answer, buffer}
-use Rattle.building.specs.Parts.{size}
+use Rattle.messages.specs.Answers.{answer, length-of, buffer}
 use Rattle.building.proofs.Judging.{good}
 use Rattle.building.proofs.Wording.{name-made, made-reading, ksm-wrote}
 use borrow.Author.Needs.{needs}
@@ -63,8 +62,8 @@ cast-write-ksm c = search needs
 write-ksm-requires : tie.Need-write-ksm-requires
 write-ksm-requires c κs = search needs
 
-size-requires : tie.Need-size-requires
-size-requires c κs = search needs
+length-of-requires : tie.Need-length-of-requires
+length-of-requires c κs = search needs
 
 same-length : tie.Need-same-length
 same-length c = search needs
@@ -98,7 +97,7 @@ returns c =
           ∙ ap mac-key (t .before .data-keys .ensures ∙ ap keys-in (t .before .before .outgoing .ensures));
     }) in
     let m = c .before .before .before .write-ksm .ensures in (
-      c .size .ensures ∙ ap size (m .0 ∙ ap (λ (x : Reading). answer x l) r) ∙ w .0,
+      c .length-of .ensures ∙ ap length-of (m .0 ∙ ap (λ (x : Reading). answer x l) r) ∙ w .0,
       m .1 ∙ ap (λ (x : Reading). buffer x l) r ∙ w .1,
     )
 
@@ -123,6 +122,6 @@ write-spec =
     dated-requires
     cast-write-ksm
     write-ksm-requires
-    size-requires
+    length-of-requires
     same-length
     returns)

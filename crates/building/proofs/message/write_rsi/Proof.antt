@@ -10,8 +10,8 @@ bare-requires c κs = search needs
 write-rsi-requires : tie.Need-write-rsi-requires
 write-rsi-requires c κs = search needs
 
-size-requires : tie.Need-size-requires
-size-requires c κs = search needs
+length-of-requires : tie.Need-length-of-requires
+length-of-requires c κs = search needs
 
 same-length : tie.Need-same-length
 same-length c = search needs
@@ -25,4 +25,4 @@ returns c =
 
 pub write-rsi-spec : {M : Type 1} → statement M
 write-rsi-spec =
-    tie.close (tie.spec bare-requires write-rsi-requires size-requires same-length returns)
+    tie.close (tie.spec bare-requires write-rsi-requires length-of-requires same-length returns)

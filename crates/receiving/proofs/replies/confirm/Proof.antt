@@ -3,8 +3,7 @@ use mathlib.Core.Path.{ap, _∙_}
 use Rattle.octets.specs.Text.{Text}
 use Rattle.keying.specs.Mac.{mac-key}
 use Rattle.messages.specs.Readings.{rsm-reading}
-use Rattle.messages.specs.Answers.{answer, buffer}
-use Rattle.receiving.specs.Stages.{length-of}
+use Rattle.messages.specs.Answers.{answer, length-of, buffer}
 use Rattle.receiving.proofs.Replying.{rsm-to}
 use borrow.Author.Needs.{needs}
 use Rattle.receiving.proofs.replies.confirm.Statement.{statement}

@@ -1,11 +1,11 @@
--- `row::acts::no_request` meets its contract: field by field. Assumes nothing.
+-- `outcome::no_request` meets its contract: field by field. Assumes nothing.
 use mathlib.Core.Path.{ap}
 use Rattle.calls.specs.declared.Date.{Date}
 use Rattle.calls.specs.declared.Request.{Request}
-use Rattle.row.specs.Acts.{no-key}
+use Rattle.outcome.specs.Acts.{no-key}
 use borrow.Author.Needs.{needs}
-use Rattle.row.proofs.acts.no_request.Statement.{statement}
-use Rattle.row.proofs.acts.no_request.Tie as tie
+use Rattle.outcome.proofs.no_request.Statement.{statement}
+use Rattle.outcome.proofs.no_request.Tie as tie
 
 no-date-requires : tie.Need-no-date-requires
 no-date-requires c κs = search needs
