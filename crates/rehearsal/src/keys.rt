@@ -4,7 +4,7 @@ use calls::Request;
 use keying::Top;
 
 // The pair that the custodians load at both ends.
-pub fn top() -> Top {
+pub(crate) fn top() -> Top {
     Top::Pair(0x0123456789ABCDEF, 0xFEDCBA9876543210)
 }
 
@@ -18,7 +18,7 @@ fn marked(key: u64, name: &[u8]) -> KeyRequest {
 }
 
 // What a day's KSM brings: on Monday one key, else two and an enciphered IV.
-pub fn request(day: &[u8]) -> Request {
+pub(crate) fn request(day: &[u8]) -> Request {
     let spare = marked(0x1515203462373194, b"SPARE");
     if octets::same(day, b"MONDAY") {
         return Request {

@@ -31,7 +31,7 @@ fn put_words(act: u8) {
 }
 
 // Who does what.
-pub fn heading(own: &[u8], act: u8) {
+pub(crate) fn heading(own: &[u8], act: u8) {
     put(own);
     put_words(act);
     put(b"\n");
@@ -81,7 +81,7 @@ fn put_telling(telling: Telling) {
 }
 
 // The answer, the letters of an error, and what is told.
-pub fn told(report: Report) {
+pub(crate) fn told(report: Report) {
     let telling = report.telling;
     put(b"  answer ");
     io::print_decimal(1, report.answer as u64);
@@ -94,7 +94,7 @@ pub fn told(report: Report) {
 }
 
 // What a call put out: a message as it is, of an image its length.
-pub fn text(act: u8, text: &[u8]) {
+pub(crate) fn text(act: u8, text: &[u8]) {
     put(b"  ");
     if act == script::WRITE {
         io::print_decimal(1, text.len() as u64);
@@ -152,7 +152,7 @@ fn put_entry(e: Entry) {
 }
 
 // The entry asked for, where there is one.
-pub fn found(found: Found) -> Report {
+pub(crate) fn found(found: Found) -> Report {
     let answer = found.answer;
     let entry = found.entry;
     if answer == 0 {
@@ -162,7 +162,7 @@ pub fn found(found: Found) -> Report {
 }
 
 // Whether the row is legal: 0 or 13.
-pub fn judged(legal: bool) -> Report {
+pub(crate) fn judged(legal: bool) -> Report {
     if legal {
         return outcome::refusal(0);
     }

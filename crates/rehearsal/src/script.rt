@@ -52,7 +52,7 @@ fn letter_of(text: &[u8]) -> Letter {
 }
 
 // Before the first move.
-pub fn opening() -> Scene {
+pub(crate) fn opening() -> Scene {
     let none = letter_of(b"");
     Scene {
         number: 0,
@@ -67,7 +67,7 @@ fn is_bravo(scene: Scene) -> bool {
 }
 
 // The identity of the card that moves.
-pub fn own(scene: Scene) -> [u8; 5] {
+pub(crate) fn own(scene: Scene) -> [u8; 5] {
     if is_bravo(scene) {
         *b"BRAVO"
     } else {
@@ -76,7 +76,7 @@ pub fn own(scene: Scene) -> [u8; 5] {
 }
 
 // The identity of its partner.
-pub fn partner(scene: Scene) -> [u8; 5] {
+pub(crate) fn partner(scene: Scene) -> [u8; 5] {
     if is_bravo(scene) {
         *b"ALPHA"
     } else {
@@ -114,7 +114,7 @@ fn act(number: usize) -> u8 {
 }
 
 // The move, announced.
-pub fn announced(scene: Scene) -> u8 {
+pub(crate) fn announced(scene: Scene) -> u8 {
     let act = act(scene.number);
     let own = own(scene);
     print::heading(&own, act);
@@ -148,13 +148,13 @@ fn given(scene: Scene) -> Letter {
 }
 
 // Its bytes, with what lies behind them.
-pub fn text(scene: Scene) -> [u8; 256] {
+pub(crate) fn text(scene: Scene) -> [u8; 256] {
     let given = given(scene);
     given.bytes
 }
 
 // Its bytes alone.
-pub fn part<'a>(text: &'a [u8], scene: Scene) -> &'a [u8] {
+pub(crate) fn part<'a>(text: &'a [u8], scene: Scene) -> &'a [u8] {
     let given = given(scene);
     let end = given.length;
     if end <= text.len() {
@@ -165,7 +165,7 @@ pub fn part<'a>(text: &'a [u8], scene: Scene) -> &'a [u8] {
 }
 
 // What a call gave is told, and its reply lies ready for the partner.
-pub fn after(scene: Scene, reply: &[u8], report: Report) -> Scene {
+pub(crate) fn after(scene: Scene, reply: &[u8], report: Report) -> Scene {
     let end = report.length;
     let mut next = scene;
     next.number = std::num::wrapping_add_usize(scene.number, 1);
