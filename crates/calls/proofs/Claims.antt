@@ -1,14 +1,24 @@
 -- The claims of specs/Claims.antt, proved.
+use mathlib.Core.Path.{_≡_, refl}
+use mathlib.Core.Logic.{_⊎_, inl, inr}
+use Rattle.octets.specs.Text.{Text}
 use Rattle.octets.specs.Part.{bare}
-use Rattle.calls.specs.Calls.{run}
-use Rattle.calls.specs.Claims.{Claims, subject, Writes}
+use Rattle.keying.specs.declared.Top.{Top}
+use Rattle.calls.specs.Calls.{Call, receive, build-ksm, build-rsi, give-up, load, remove, ask, run}
+use Rattle.calls.specs.Claims.{Claims, Of-one-entry, subject, Writes}
 use Rattle.calls.proofs.Effects.{run-effect}
 use Rattle.calls.proofs.Laws.{answers, keeps, bares, complains, writes, owns, rows, legals, counts}
 use Rattle.calls.proofs.Decides.{alike}
 use Rattle.calls.proofs.Silence.{silent}
-use Rattle.calls.proofs.Accepting.{ksm-accepted, count-error, rsm-taken, esm-breaking, request-good}
-use Rattle.calls.proofs.Judging.{accepted-is-good, taken-is-good, built-is-good}
-use Rattle.calls.proofs.Exchange.{exchanged}
+
+all-but : (c : Call) → Of-one-entry c ⊎ ((id name : Text) × (top : Top) × (c ≡ load id name top))
+all-but (receive room text) = inl tt
+all-but (build-ksm room id q) = inl tt
+all-but (build-rsi room id contents) = inl tt
+all-but (give-up id) = inl tt
+all-but (load id name top) = inr (id, name, top, refl)
+all-but (remove id) = inl tt
+all-but (ask id) = inl tt
 
 pub claims : Claims
 claims = record {
@@ -23,13 +33,5 @@ claims = record {
   stays-legal = λ t c. legals t (subject c) (Writes (bare (t .own)) c) (run t c) (run-effect t c);
   counts-never-fall = λ t c e f. counts t (subject c) (Writes (bare (t .own)) c) (run t c) e f (run-effect t c);
   one-entry-decides = alike;
-  good-ksm-is-accepted = ksm-accepted;
-  accepted-ksm-is-good = accepted-is-good;
-  count-errors-are-told = count-error;
-  good-request-is-built = request-good;
-  built-request-is-good = built-is-good;
-  good-rsm-is-taken = rsm-taken;
-  taken-rsm-is-good = taken-is-good;
-  esm-breaks = esm-breaking;
-  exchange = exchanged;
+  all-but-load = all-but;
 }

@@ -1,7 +1,7 @@
 -- What one card builds the other accepts, and its reply is taken.
 use mathlib.Core.Path.{_≡_, refl, sym, ap, _∙_, subst}
 use mathlib.Core.Bool.{Bool, true, false, cond, not, _&&_, _||_}
-use mathlib.Core.List.{List, [], _∷_}
+use mathlib.Core.List.{List, _∷_, []}
 use mathlib.Core.Option.{Option, none, some}
 use Prim.Native.Nat.{ℕ, _^_, _≤_, _<_}
 use Prim.Native.Char.{code}
@@ -17,7 +17,7 @@ use Rattle.keying.specs.Iv.{conceal, reveal}
 use Rattle.keying.specs.Date.{is-date}
 use Rattle.keying.proofs.Laws.{unseal-seal, reveal-conceal, conceal-lt}
 use Rattle.csm.specs.Fields.{named, hex-text}
-use Rattle.csm.specs.Message.{ksm, rsm, found}
+use Rattle.csm.specs.Message.{ksm, found}
 use Rattle.csm.specs.Covered.{covered}
 use Rattle.csm.proofs.TextLaws.{same-refl}
 use Rattle.csm.proofs.NumberLaws.{hex-number}
@@ -26,7 +26,7 @@ use Rattle.partner.specs.declared.Name.{Name}
 use Rattle.partner.specs.declared.KeySet.{KeySet}
 use Rattle.partner.specs.declared.Entry.{Entry}
 use Rattle.partner.specs.Entry.{name-of, top-of, keys-in, one-key, two-keys}
-use Rattle.partner.specs.Changes.{sending, accepted, issued}
+use Rattle.partner.specs.Changes.{sending, issued}
 use Rattle.image.specs.Table.{Table}
 use Rattle.calls.specs.declared.KeyRequest.{KeyRequest}
 use Rattle.calls.specs.declared.Request.{Request}
@@ -36,15 +36,14 @@ use Rattle.calls.specs.Receive.{bad-format, is-waiting}
 use Rattle.calls.specs.Build.{used, not-odd, wants-p, wants-idk1, wants-idk2, outgoing-key, outgoing-of}
 use Rattle.calls.specs.Build.{asked, kd-for, iv-for, ksm-text}
 use Rattle.calls.specs.Outcome.{keys}
-use Rattle.calls.specs.Calls.{receive, build-ksm, After, run}
-use Rattle.calls.specs.Claims.{Carries, Good-ksm, Accepts, Good-request, Partners, Sized, iv-asked, date-asked}
-use Rattle.calls.specs.Claims.{after-built, after-taken, Exchanged}
+use Rattle.calls.specs.Calls.{receive, After, run}
+use Rattle.calls.specs.Claims.{Carries, Sized}
+use Rattle.calls.specs.Steps.{Partners, iv-asked, date-asked, after-taken}
+use Rattle.calls.proofs.Passing.{Passes, Taken-in, Fit}
 use Rattle.calls.proofs.Requests.{Keyed, one, two, Formed, formed, not-two}
 use Rattle.calls.proofs.Tables.{own-name, entry-held, held-legal}
 use Rattle.calls.proofs.Written.{sent, sent-written, sent-sealed}
-use Rattle.calls.proofs.Accepting.{ksm-accepted, rsm-taken, request-built, request-good}
-use Rattle.calls.proofs.Effects.{run-effect}
-use Rattle.calls.proofs.Laws.{owns, legals}
+use Rattle.calls.proofs.Accepting.{ksm-accepted, request-built}
 
 -- ---- keys and names arrive
 
@@ -199,13 +198,13 @@ date-arrives us e q = refl
 
 -- ---- what was built is good
 
-sent-count : (us : Text) (e : Entry) (q : Request) → sent us e q .ctp ≡ e .next
+pub sent-count : (us : Text) (e : Entry) (q : Request) → sent us e q .ctp ≡ e .next
 unfolding sent
 sent-count us e q = refl
 
-module _ (us : Text) (e f : Entry) (q : Request) (good : Good-request e q) (sized : Sized q) where
+module _ (us : Text) (e f : Entry) (q : Request) (good : Fit e q) (sized : Sized q) where
   pub sent-good : (text : Text) → top-of e ≡ top-of f → e .name ≡ f .name → f .expected ≤ e .next
-      → sent us e q .mac ≡ mac (mac-key (keys-in (outgoing-of q))) (covered text) → Good-ksm f text (sent us e q)
+      → sent us e q .mac ≡ mac (mac-key (keys-in (outgoing-of q))) (covered text) → Passes f text (sent us e q)
   sent-good text t n x s =
       let d = formed q (good .formed) in
       let k = keys-back us e f q t sized in
@@ -228,9 +227,9 @@ issued-outgoing : (e : Entry) (set : KeySet) → issued e set .outgoing ≡ set
 unfolding issued sending
 issued-outgoing e set = refl
 
-module _ (t u : Table) (e f : Entry) (q : Request) (room : ℕ) (p : Partners t u e f) (good : Good-request e q)
+module _ (t u : Table) (e f : Entry) (q : Request) (room : ℕ) (p : Partners t u e f) (good : Fit e q)
     (sized : Sized q) (roomy : 256 ≤ room) where
-  accepts : Accepts (bare (u .own)) (bare (t .own)) f (sent (bare (t .own)) e q) (after-taken t u q room)
+  pub accepts : Taken-in (bare (u .own)) (bare (t .own)) f (sent (bare (t .own)) e q) (after-taken t u q room)
   accepts =
       let us = bare (t .own) in
       let them = bare (u .own) in
@@ -243,33 +242,5 @@ module _ (t u : Table) (e f : Entry) (q : Request) (room : ℕ) (p : Partners t 
       (sent-written us e n l q d) in
       let g = sent-good us e f q good sized (ksm-text us e q) (p .same-top) (p .same-name) (p .in-step)
       (sent-sealed us e n l q d) in
-      subst (λ (a : After). Accepts them us f (sent us e q) (run u (receive room (a .outcome .reply)))) (sym b)
+      subst (λ (a : After). Taken-in them us f (sent us e q) (run u (receive room (a .outcome .reply)))) (sym b)
       (ksm-accepted u room (ksm-text us e q) us (sent us e q) f (p .theirs) roomy c (p .their-entry) g)
-
-  pub exchanged : Exchanged t u e f q room
-  exchanged =
-      let us = bare (t .own) in
-      let them = bare (u .own) in
-      let set = outgoing-of q in
-      let m = sent us e q in
-      let b = request-good t room them q e (p .ours) roomy (p .our-entry) good in
-      let a = accepts in
-      let k = keys-back us e f q (p .same-top) sized in
-      let c = rsm-taken (after-built t u q room .table) room (after-taken t u q room .outcome .reply) them (a .message)
-      (issued e set) (legals t _ _ _ (run-effect t (build-ksm room them q)) (p .ours)) roomy
-      (subst (λ (own : Text). Carries them (bare own) (rsm (a .message)) (after-taken t u q room .outcome .reply))
-      (sym (owns t _ _ _ (run-effect t (build-ksm room them q)))) (a .written))
-      (b .entry) (issued-waits e set)
-      (a .sealed ∙ ap (λ (s : KeySet). mac (mac-key (keys-in s)) (covered (after-taken t u q room .outcome .reply)))
-      (k ∙ sym (issued-outgoing e set))) in
-      record {
-        built = b .answered;
-        waiting = b .entry;
-        taken = a .answered;
-        returned = a .returned ∙ ap (λ (s : KeySet). keys (iv-of s m) (m .edk)) k
-            ∙ (λ j. keys (iv-arrives us e q sized j) (date-arrives us e q j));
-        received = a .entry ∙ ap (λ (s : KeySet). some (accepted f (m .ctp) s)) k
-            ∙ ap (λ (n : ℕ). some (accepted f n set)) (sent-count us e q);
-        confirmed = c .0;
-        settles = c .1;
-      }

@@ -23,7 +23,8 @@ use Rattle.calls.specs.Receive.{brought, when, faults, bad-format, bad-m
 use Rattle.calls.specs.Receive.{judged, receive-ksm, is-waiting, receive-rsm}
 use Rattle.calls.specs.Build as building
 use Rattle.calls.specs.Calls.{receive, build-ksm, After, entry-of, turned, at-partner, receiving, perform, run}
-use Rattle.calls.specs.Claims.{Carries, Good-ksm, Good-request}
+use Rattle.calls.specs.Claims.{Carries}
+use Rattle.calls.proofs.Passing.{Passes, Fit}
 use Rattle.calls.proofs.Tests.{or-split, by-case}
 use Rattle.calls.proofs.Readings.{ksm-parts}
 use Rattle.calls.proofs.Turns.{refusing, refusing-not-0, short-of-last}
@@ -85,12 +86,12 @@ none-holds false true false h = absurd (true≢false (sym h))
 none-holds false false true h = absurd (true≢false (sym h))
 
 ksm-only : (us : Text) (e : Entry) (text : Text) (m : Ksm) → legal-body (ksm m) ≡ true
-    → by-class.receive us e text (ksm m) .outcome .answer ≡ 0 → Good-ksm e text m
+    → by-class.receive us e text (ksm m) .outcome .answer ≡ 0 → Passes e text m
 unfolding by-class.receive receive-ksm judged faults bad-mac bad-count
 ksm-only us e text m l =
-    by-case (λ (r : Turn). r .outcome .answer ≡ 0 → Good-ksm e text m) _ _ _ (λ _. complaint-not-done) λ n.
-    by-case (λ (r : Turn). r .outcome .answer ≡ 0 → Good-ksm e text m) _ _ _ (λ _. complaint-not-done) λ p.
-    by-case (λ (r : Turn). r .outcome .answer ≡ 0 → Good-ksm e text m) _ _ _ (λ _. complaint-not-done) λ f.
+    by-case (λ (r : Turn). r .outcome .answer ≡ 0 → Passes e text m) _ _ _ (λ _. complaint-not-done) λ n.
+    by-case (λ (r : Turn). r .outcome .answer ≡ 0 → Passes e text m) _ _ _ (λ _. complaint-not-done) λ p.
+    by-case (λ (r : Turn). r .outcome .answer ≡ 0 → Passes e text m) _ _ _ (λ _. complaint-not-done) λ f.
     λ z.
     let h = none-holds (bad-format (brought e m) m) (bad-mac (brought e m) text (m .mac))
     (bad-count (e .expected) (m .ctp)) (not-false _ f) in
@@ -106,9 +107,9 @@ ksm-only us e text m l =
 
 pub accepted-is-good : (t : Table) (room : ℕ) (text id : Text) (m : Ksm) (e : Entry)
     → Carries id (bare (t .own)) (ksm m) text → entry-of id t ≡ some e
-    → run t (receive room text) .outcome .answer ≡ 0 → Good-ksm e text m
+    → run t (receive room text) .outcome .answer ≡ 0 → Passes e text m
 accepted-is-good t room text id m e c k =
-    receive-only t id e k (Good-ksm e text m) room text (ksm m) c
+    receive-only t id e k (Passes e text m) room text (ksm m) c
     (λ _. ksm-only (bare (t .own)) e text m (reading-parts _ (read-back text _ c .0) .body))
 
 -- ---- an RSM
@@ -134,17 +135,17 @@ taken-is-good t room text id m e c k =
 -- ---- a request
 
 build-only-good : (us : Text) (e : Entry) (q : Request) → partner.legal e ≡ true
-    → building.build-ksm us e q .outcome .answer ≡ 0 → Good-request e q
+    → building.build-ksm us e q .outcome .answer ≡ 0 → Fit e q
 unfolding building.build-ksm
 build-only-good us e q l =
-    by-case (λ (r : Turn). r .outcome .answer ≡ 0 → Good-request e q) _ _ _ (λ _. not-done 7 refl) λ w.
-    by-case (λ (r : Turn). r .outcome .answer ≡ 0 → Good-request e q) _ _ _ (λ _. not-done 8 refl) λ n.
-    by-case (λ (r : Turn). r .outcome .answer ≡ 0 → Good-request e q) _ _ _ (λ _. not-done 11 refl) λ p.
-    by-case (λ (r : Turn). r .outcome .answer ≡ 0 → Good-request e q) _ _ _ (λ _. not-done 12 refl) λ f.
+    by-case (λ (r : Turn). r .outcome .answer ≡ 0 → Fit e q) _ _ _ (λ _. not-done 7 refl) λ w.
+    by-case (λ (r : Turn). r .outcome .answer ≡ 0 → Fit e q) _ _ _ (λ _. not-done 8 refl) λ n.
+    by-case (λ (r : Turn). r .outcome .answer ≡ 0 → Fit e q) _ _ _ (λ _. not-done 11 refl) λ p.
+    by-case (λ (r : Turn). r .outcome .answer ≡ 0 → Fit e q) _ _ _ (λ _. not-done 12 refl) λ f.
     λ z. record { free = w; not-last = short-of-last (e .next) (rules e l .next-right) n; parity = p; formed = f }
 
 pub built-is-good : (t : Table) (room : ℕ) (id : Text) (q : Request) (e : Entry) → entry-of id t ≡ some e
-    → run t (build-ksm room id q) .outcome .answer ≡ 0 → Good-request e q
+    → run t (build-ksm room id q) .outcome .answer ≡ 0 → Fit e q
 built-is-good t room id q e k =
-    build-only t id e k (Good-request e q) room q
+    build-only t id e k (Fit e q) room q
     (λ l. build-only-good (bare (t .own)) e q (held-legal t id e l (entry-held t id e k)))

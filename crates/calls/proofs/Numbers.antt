@@ -1,25 +1,70 @@
--- The numbers hold, by computation.
-use mathlib.Core.Path.{refl}
-use mathlib.Core.Bool.{or-true}
-use lib.Dec.{ltb}
+-- The numbers hold.
+use mathlib.Core.Path.{_≡_, refl, sym, ap, _∙_, subst}
+use mathlib.Core.Bool.{true, false}
+use Prim.Native.Nat.{ℕ, _+_, _≤_, _<_}
+use native.Mathlib.Omega.{arith}
+use Rattle.octets.specs.Text.{Text, within}
 use Rattle.keying.proofs.Numbers as keying
-use Rattle.partner.specs.Entry.{risen}
-use Rattle.partner.specs.Changes.{receiving, accepted}
-use Rattle.calls.specs.Receive.{bad-count}
-use Rattle.calls.specs.Numbers.{Numbers}
+use Rattle.csm.specs.Message.{Ksm, ksm}
+use Rattle.partner.specs.declared.KeySet.{KeySet}
+use Rattle.partner.specs.declared.Entry.{Entry}
+use Rattle.partner.specs.Entry.{limit}
+use Rattle.partner.specs.Changes.{receiving as receiving-side, accepted}
+use Rattle.calls.specs.Outcome.{done, keys}
+use Rattle.calls.specs.Receive as by-class
+use Rattle.calls.specs.Receive.{receive-ksm, brought, rsm-text, iv-of}
+use Rattle.calls.specs.Good.{In-turn}
+use Rattle.calls.specs.Results.{holds, fails}
+use Rattle.calls.specs.Numbers.{Comes-to, Leaves, Is-P, Numbers}
+use Rattle.calls.proofs.Accepting.{ksm-turn}
+use Rattle.calls.proofs.Complaining.{judged-turn}
+use Rattle.calls.proofs.Stepping.{passes, risen-by-one}
+
+by-class-ksm : (own : Text) (e : Entry) (text : Text) (m : Ksm)
+    → by-class.receive own e text (ksm m) ≡ receive-ksm own e text m
+unfolding by-class.receive
+by-class-ksm own e text m = refl
+
+expects-one-more : (e : Entry) (n : ℕ) (set : KeySet) → n < limit → accepted e n set .expected ≡ n + 1
+unfolding accepted receiving-side
+expects-one-more e n set l = risen-by-one n l
+
+leaves-one-more : (expected count : ℕ) → expected ≤ count → count < limit → Comes-to expected count (Leaves (count + 1))
+leaves-one-more expected count x y own e text m p q g =
+    let t : In-turn (e .expected) (m .ctp) = record { fresh = omega (arith, x, p, q); not-last = omega (arith, y, q) } in
+    subst (Leaves (count + 1))
+    (sym (ksm-turn own e text m (passes e text m (record { rest = g; count = t }))) ∙ by-class-ksm own e text m)
+    (result e (m .ctp) (brought e m) (t .not-last) q)
+  where
+    result : (e : Entry) (n : ℕ) (set : KeySet) → n < limit → n ≡ count
+        → Leaves (count + 1) (done (accepted e n set) (rsm-text own e set) (keys (iv-of set m) (m .edk)))
+    result e n set l q = record { accepted = refl; expects = expects-one-more e n set l ∙ ap (λ (k : ℕ). k + 1) q }
+
+out-of-turn : (expected count : ℕ) → within 1 limit count ≡ true → (In-turn expected count → ⊥)
+    → Comes-to expected count (Is-P expected)
+out-of-turn expected count l n own e text m p q g =
+    let c : In-turn (e .expected) (m .ctp) → ⊥ = λ i. n (subst (λ (k : ℕ). In-turn expected k) q
+    (subst (λ (k : ℕ). In-turn k (m .ctp)) p i)) in
+    subst (Is-P expected)
+    (sym (judged-turn own e text m (g .set) true true false (ap (within 1 limit) q ∙ l) (g .names) (g .parity)
+    (g .brings) (holds (g .format)) (holds (g .sealed)) (fails c) refl) ∙ by-class-ksm own e text m)
+    (record { answered = refl; spelled = refl; expects = p })
 
 pub numbers : Numbers
-unfolding bad-count accepted receiving risen
 numbers = record {
   of-keys = keying.numbers;
-  expected-5-takes-5 = refl;
-  count-5-leaves-6 = λ e set. refl;
-  expected-5-takes-7 = refl;
-  count-7-leaves-8 = λ e set. refl;
-  count-4-is-P = refl;
-  last-but-one-is-taken = refl;
-  and-leaves-the-last = λ e set. refl;
-  last-is-P = λ n. or-true (ltb 99_999_999 n);
+  count-5-leaves-6 = leaves-one-more 5 5 (omega arith) (omega arith);
+  count-7-leaves-8 = leaves-one-more 5 7 (omega arith) (omega arith);
+  count-4-is-P = out-of-turn 5 4 refl (λ i. let k = i .fresh in omega arith);
+  last-but-one-leaves-the-last = leaves-one-more 99_999_998 99_999_998 (omega arith) (omega arith);
+  last-is-P = λ n. out-of-turn n 99_999_999 refl (λ i. let k = i .not-last in omega arith);
   kd-iv-is-a-service = refl;
   iv-kd-is-not = refl;
+  phases = (refl, refl, refl, refl);
+  spelled-F = refl;
+  spelled-I = refl;
+  spelled-K = refl;
+  spelled-M = refl;
+  spelled-O = refl;
+  spelled-P = refl;
 }

@@ -5,3 +5,7 @@ pub mod Build
 pub mod Calls
 pub mod Numbers
 pub mod Claims
+pub mod Good
+pub mod Results
+pub mod Steps
+pub mod Order

@@ -1,0 +1,253 @@
+-- Errors: the letters of each, and the ESM that tells them.
+use mathlib.Core.Path.{_≡_, refl, sym, ap, _∙_, subst}
+use mathlib.Core.Bool.{Bool, true, false, cond, not, _&&_, true≢false}
+use mathlib.Core.List.{_++_}
+use mathlib.Core.Option.{Option, none, some}
+use Prim.Native.Nat.{ℕ, _+_}
+use lib.Dec.{eqb}
+use borrow.Author.Tests.{eq-eqb}
+use Rattle.octets.specs.Text.{Text, ascii, is-name, within}
+use Rattle.octets.specs.Part.{bare}
+use Rattle.keying.specs.Parity.{odd}
+use Rattle.csm.specs.Fields.{Kd, Class, erf}
+use Rattle.csm.specs.Message.{Body, Ksm, Rsm, ksm, rsm, option, legal-body}
+use Rattle.csm.proofs.MessageLaws.{read-back, legal-parts as reading-parts}
+use Rattle.partner.specs.declared.KeySet.{KeySet}
+use Rattle.partner.specs.declared.Entry.{Entry}
+use Rattle.partner.specs.Entry.{limit, waiting}
+use Rattle.partner.specs.Legal as partner
+use Rattle.partner.proofs.Keeping.{rules}
+use Rattle.image.specs.Table.{Table, legal}
+use Rattle.calls.specs.Words.{any}
+use Rattle.calls.specs.Outcome.{F, I, K, M, O, P, Turn}
+use Rattle.calls.specs.Receive as by-class
+use Rattle.calls.specs.Receive.{error, esm-body, foreign, uneven, kds, brought, when, faults}
+use Rattle.calls.specs.Receive.{bad-format, bad-mac, bad-count, judged, receive-ksm, is-waiting, receive-rsm}
+use Rattle.calls.specs.Calls.{receive, After, run}
+use Rattle.calls.specs.Claims.{Carries}
+use Rattle.calls.specs.Good.{Kd-of, Ours, in-clear, Even-only-unmarked, Brings, Formed-ksm, Sealed, In-turn}
+use Rattle.calls.specs.Results.{Tells, Judged, holds, fails, unless, told-unless}
+use Rattle.calls.specs.Steps.{Comes}
+use Rattle.calls.proofs.Tests.{if-true, if-false}
+use Rattle.calls.proofs.Readings.{esm-legal, ksm-parts}
+use Rattle.calls.proofs.Turns.{letters-legal}
+use Rattle.calls.proofs.Written.{to-them}
+use Rattle.calls.proofs.Tables.{own-name, entry-held, held-legal}
+use Rattle.calls.proofs.Accepting.{receive-turns, put-back}
+use Rattle.calls.proofs.Meaning.{of-all, of-one, ours, not-foreign, not-uneven, brings-only}
+use Rattle.calls.proofs.Meaning.{ksm-formed, formed-ksm, is-sealed, sealed-is, in-turn, turn-in}
+
+-- ---- a received message's turn is the call's
+
+pub received : (t : Table) (room : ℕ) (text id : Text) (b : Body) (e : Entry) (r : Turn) → Comes t room id e
+    → Carries id (bare (t .own)) b text → by-class.receive (bare (t .own)) e text b ≡ r
+    → run t (receive room text) ≡ put-back t id r
+received t room text id b e r g c p =
+    receive-turns t (g .lawful) room (g .roomy) id e (g .known) text b c ∙ ap (put-back t id) p
+
+-- ---- an error tells its letters
+
+-- the counts of an ESM
+abbrev first-count : Option (ℕ × ℕ) → Option ℕ
+first-count none = none
+first-count (some (x, y)) = some x
+
+abbrev second-count : Option (ℕ × ℕ) → Option ℕ
+second-count none = none
+second-count (some (x, y)) = some y
+
+error-tells : (us : Text) (e : Entry) (n : ℕ) (o : Option (ℕ × ℕ)) → is-name us ≡ true → partner.legal e ≡ true
+    → legal-body (esm-body n o) ≡ true
+    → Tells us (bare (e .identity .bytes)) (erf .text n) (first-count o) (second-count o) (error us e n o .outcome)
+error-tells us e n none u l h = record {
+  answered = refl;
+  spelled = refl;
+  written = to-them us e u l (esm-body n none) refl h;
+  no-more = refl;
+}
+error-tells us e n (some (x, y)) u l h = record {
+  answered = refl;
+  spelled = refl;
+  written = to-them us e u l (esm-body n (some (x, y))) refl h;
+  no-more = refl;
+}
+
+-- a call whose turn is an error
+pub told : (t : Table) (room : ℕ) (text id : Text) (b : Body) (e : Entry) (n : ℕ) (o : Option (ℕ × ℕ))
+    → Comes t room id e → Carries id (bare (t .own)) b text
+    → by-class.receive (bare (t .own)) e text b ≡ error (bare (t .own)) e n o → legal-body (esm-body n o) ≡ true
+    → Tells (bare (t .own)) id (erf .text n) (first-count o) (second-count o) (run t (receive room text) .outcome)
+told t room text id b e n o g c p h =
+    let us = bare (t .own) in
+    let k = entry-held t id e (g .known) in
+    subst (λ (a : After). Tells us id (erf .text n) (first-count o) (second-count o) (a .outcome))
+    (sym (received t room text id b e (error us e n o) g c p))
+    (subst (λ (them : Text). Tells us them (erf .text n) (first-count o) (second-count o) (error us e n o .outcome))
+    (k .bare-identity)
+    (error-tells us e n o (own-name t (g .lawful)) (held-legal t id e (g .lawful) k) h))
+
+-- ---- a KSM: I alone, K alone
+
+-- one of its KDs has a foreign name
+some-foreign : (e : Entry) (m : Ksm) (k : Kd) → Kd-of m k → (Ours e k → ⊥) → any (foreign e) (kds m) ≡ true
+some-foreign e m k i n = of-one (foreign e) m k i (go (foreign e k) refl)
+  where
+    go : (b : Bool) → foreign e k ≡ b → b ≡ true
+    go true p = refl
+    go false p = absurd (n (ours e k p))
+
+foreign-turn : (us : Text) (e : Entry) (text : Text) (m : Ksm) → any (foreign e) (kds m) ≡ true
+    → by-class.receive us e text (ksm m) ≡ error us e I none
+unfolding by-class.receive receive-ksm
+foreign-turn us e text m h = if-true (any (foreign e) (kds m)) _ _ h
+
+pub foreign-is-I : (t : Table) (room : ℕ) (text id : Text) (m : Ksm) (e : Entry) → Comes t room id e
+    → Carries id (bare (t .own)) (ksm m) text → (k : Kd) → Kd-of m k → (Ours e k → ⊥)
+    → Tells (bare (t .own)) id (ascii "I") none none (run t (receive room text) .outcome)
+foreign-is-I t room text id m e g c k i n =
+    told t room text id (ksm m) e I none g c (foreign-turn (bare (t .own)) e text m (some-foreign e m k i n))
+    (esm-legal I refl refl)
+
+no-foreign : (e : Entry) (m : Ksm) → ((k : Kd) → Kd-of m k → Ours e k) → any (foreign e) (kds m) ≡ false
+no-foreign e m h = of-all (foreign e) m (λ k i. not-foreign e k (h k i))
+
+uneven-turn : (us : Text) (e : Entry) (text : Text) (m : Ksm) → any (foreign e) (kds m) ≡ false
+    → any (uneven e m) (kds m) ≡ true → by-class.receive us e text (ksm m) ≡ error us e K none
+unfolding by-class.receive receive-ksm
+uneven-turn us e text m f h = if-false (any (foreign e) (kds m)) _ _ f ∙ if-true (any (uneven e m) (kds m)) _ _ h
+
+is-uneven : (e : Entry) (m : Ksm) (k : Kd) → k .p ≡ true → odd (in-clear e m k) ≡ false → uneven e m k ≡ true
+unfolding uneven
+is-uneven e m k p h = rw (p, h)
+
+pub even-is-K : (t : Table) (room : ℕ) (text id : Text) (m : Ksm) (e : Entry) → Comes t room id e
+    → Carries id (bare (t .own)) (ksm m) text → ((k : Kd) → Kd-of m k → Ours e k)
+    → (k : Kd) → Kd-of m k → k .p ≡ true → odd (in-clear e m k) ≡ false
+    → Tells (bare (t .own)) id (ascii "K") none none (run t (receive room text) .outcome)
+even-is-K t room text id m e g c f k i p h =
+    told t room text id (ksm m) e K none g c
+    (uneven-turn (bare (t .own)) e text m (no-foreign e m f) (of-one (uneven e m) m k i (is-uneven e m k p h)))
+    (esm-legal K refl refl)
+
+-- ---- then F, M and P together
+
+-- a test fails exactly where its condition holds
+judged-by : {P : Type 0} (test b : Bool) → (test ≡ false → P) → (P → test ≡ false) → Judged P b → test ≡ not b
+judged-by test b f g (holds p) = g p
+judged-by test b f g (fails n) = go test refl
+  where
+    go : (x : Bool) → test ≡ x → test ≡ true
+    go true q = q
+    go false q = absurd (n (f q))
+
+-- the letters of what fails
+abbrev pub letters : Bool → Bool → Bool → ℕ
+letters f s c = when (not f) F + (when (not s) M + when (not c) P)
+
+pub spelled : (f s c : Bool) → erf .text (letters f s c) ≡ unless f (ascii "F") ++ (unless s (ascii "M") ++ unless c (ascii "P"))
+spelled true true true = refl
+spelled true true false = refl
+spelled true false true = refl
+spelled true false false = refl
+spelled false true true = refl
+spelled false true false = refl
+spelled false false true = refl
+spelled false false false = refl
+
+some-letter : (f s c : Bool) → f && s && c ≡ false → not (eqb (letters f s c) 0) ≡ true
+some-letter true true true h = absurd (true≢false h)
+some-letter true true false h = refl
+some-letter true false true h = refl
+some-letter true false false h = refl
+some-letter false true true h = refl
+some-letter false true false h = refl
+some-letter false false true h = refl
+some-letter false false false h = refl
+
+-- the counts where the count is wrong
+abbrev pub counts : Bool → ℕ → ℕ → Option (ℕ × ℕ)
+counts c x y = cond (not c) (some (x, y)) none
+
+counts-told : (us id w : Text) (x y : ℕ) (a : After) (c : Bool)
+    → Tells us id w (first-count (counts c x y)) (second-count (counts c x y)) (a .outcome)
+    → Tells us id w (told-unless c x) (told-unless c y) (a .outcome)
+counts-told us id w x y a true h = h
+counts-told us id w x y a false h = h
+
+faults-turn : (us : Text) (e : Entry) (text : Text) (m : Ksm) (f s c : Bool) → any (foreign e) (kds m) ≡ false
+    → any (uneven e m) (kds m) ≡ false → bad-format (brought e m) m ≡ not f
+    → bad-mac (brought e m) text (m .mac) ≡ not s → bad-count (e .expected) (m .ctp) ≡ not c
+    → not (eqb (letters f s c) 0) ≡ true
+    → by-class.receive us e text (ksm m) ≡ error us e (letters f s c) (counts c (e .expected) (m .ctp))
+unfolding by-class.receive receive-ksm judged faults
+faults-turn us e text m f s c n u p q r h =
+    if-false (any (foreign e) (kds m)) _ _ n ∙ if-false (any (uneven e m) (kds m)) _ _ u
+    ∙ rw (p, q, r) (if-true (not (eqb (letters f s c) 0)) _ _ h)
+
+-- what is judged so, of a KSM with good names and parity
+module _ (us : Text) (e : Entry) (text : Text) (m : Ksm) (set : KeySet) (f s c : Bool) (l : within 1 limit (m .ctp) ≡ true)
+    (n : (k : Kd) → Kd-of m k → Ours e k) (u : (k : Kd) → Kd-of m k → Even-only-unmarked e m k) (b : Brings e m set)
+    (jf : Judged (Formed-ksm set m) f) (js : Judged (Sealed set text (m .mac)) s)
+    (jc : Judged (In-turn (e .expected) (m .ctp)) c) where
+  pub judged-turn : f && s && c ≡ false
+      → by-class.receive us e text (ksm m) ≡ error us e (letters f s c) (counts c (e .expected) (m .ctp))
+  judged-turn h =
+      let i = brings-only e m set b in
+      let p : bad-format (brought e m) m ≡ not f =
+      subst (λ (k : KeySet). bad-format k m ≡ not f) i
+      (judged-by (bad-format set m) f (ksm-formed set m) (formed-ksm set m) jf) in
+      let q : bad-mac (brought e m) text (m .mac) ≡ not s =
+      subst (λ (k : KeySet). bad-mac k text (m .mac) ≡ not s) i
+      (judged-by (bad-mac set text (m .mac)) s (is-sealed set text (m .mac)) (sealed-is set text (m .mac)) js) in
+      let r = judged-by (bad-count (e .expected) (m .ctp)) c (in-turn (e .expected) (m .ctp) l)
+      (turn-in (e .expected) (m .ctp)) jc in
+      faults-turn us e text m f s c (no-foreign e m n) (of-all (uneven e m) m (λ k j. not-uneven e m k (u k j))) p q r
+      (some-letter f s c h)
+
+pub faults-told : (t : Table) (room : ℕ) (text id : Text) (m : Ksm) (e : Entry) (set : KeySet) (f s c : Bool)
+    → Comes t room id e → Carries id (bare (t .own)) (ksm m) text
+    → ((k : Kd) → Kd-of m k → Ours e k) → ((k : Kd) → Kd-of m k → Even-only-unmarked e m k) → Brings e m set
+    → Judged (Formed-ksm set m) f → Judged (Sealed set text (m .mac)) s → Judged (In-turn (e .expected) (m .ctp)) c
+    → f && s && c ≡ false
+    → Tells (bare (t .own)) id (unless f (ascii "F") ++ (unless s (ascii "M") ++ unless c (ascii "P")))
+    (told-unless c (e .expected)) (told-unless c (m .ctp)) (run t (receive room text) .outcome)
+faults-told t room text id m e set f s c g x n u b jf js jc h =
+    let us = bare (t .own) in
+    let l = ksm-parts m (reading-parts _ (read-back text _ x .0) .body) .count in
+    let v = rules e (held-legal t id e (g .lawful) (entry-held t id e (g .known))) .expected-right in
+    let z = told t room text id (ksm m) e (letters f s c) (counts c (e .expected) (m .ctp)) g x
+    (judged-turn us e text m set f s c l n u b jf js jc h)
+    (letters-legal (not f) (not s) (not c) (e .expected) (m .ctp) v l (some-letter f s c h)) in
+    counts-told us id _ (e .expected) (m .ctp) (run t (receive room text)) c
+    (subst (λ (w : Text). Tells us id w (first-count (counts c (e .expected) (m .ctp)))
+    (second-count (counts c (e .expected) (m .ctp))) (run t (receive room text) .outcome)) (spelled f s c) z)
+
+-- ---- an RSM whose MAC differs: M; an option: O
+
+bad-rsm-turn : (us : Text) (e : Entry) (text : Text) (m : Rsm) → e .phase ≡ waiting
+    → bad-mac (e .outgoing) text (m .mac) ≡ true → by-class.receive us e text (rsm m) ≡ error us e M none
+unfolding by-class.receive receive-rsm is-waiting
+bad-rsm-turn us e text m w h =
+    if-false (not (eqb (e .phase) waiting)) _ _ (ap not (eq-eqb (e .phase) waiting w))
+    ∙ if-true (bad-mac (e .outgoing) text (m .mac)) _ _ h
+
+pub bad-rsm : (t : Table) (room : ℕ) (text id : Text) (m : Rsm) (e : Entry) → Comes t room id e
+    → Carries id (bare (t .own)) (rsm m) text → e .phase ≡ waiting → (Sealed (e .outgoing) text (m .mac) → ⊥)
+    → Tells (bare (t .own)) id (ascii "M") none none (run t (receive room text) .outcome)
+bad-rsm t room text id m e g c w n =
+    told t room text id (rsm m) e M none g c
+    (bad-rsm-turn (bare (t .own)) e text m w
+    (judged-by (bad-mac (e .outgoing) text (m .mac)) false (is-sealed (e .outgoing) text (m .mac))
+    (sealed-is (e .outgoing) text (m .mac)) (fails n)))
+    (esm-legal M refl refl)
+
+option-turn : (us : Text) (e : Entry) (text : Text) (c : Class) (w : Text)
+    → by-class.receive us e text (option c w) ≡ error us e O none
+unfolding by-class.receive
+option-turn us e text c w = refl
+
+pub option-told : (t : Table) (room : ℕ) (text id : Text) (c : Class) (w : Text) (e : Entry) → Comes t room id e
+    → Carries id (bare (t .own)) (option c w) text
+    → Tells (bare (t .own)) id (ascii "O") none none (run t (receive room text) .outcome)
+option-told t room text id c w e g x =
+    told t room text id (option c w) e O none g x (option-turn (bare (t .own)) e text c w) (esm-legal O refl refl)
