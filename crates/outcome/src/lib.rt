@@ -109,16 +109,14 @@ pub fn refused(e: Entry, answer: u32) -> Turned
 pub fn complained(e: Entry, letters: u64, length: usize) -> Turned
     ensures { λ r. ⌜ r ≡ report.complained-turned e letters length ⌝ }
 {
-    Turned {
-        entry: e,
-        report: Report {
-            answer: 4,
-            letters,
-            length,
-            telling: Telling::Nothing,
-            date: no_date(),
-        },
-    }
+    let report = Report {
+        answer: 4,
+        letters,
+        length,
+        telling: Telling::Nothing,
+        date: no_date(),
+    };
+    Turned { entry: e, report }
 }
 
 // 0: the entry as it is now, the length of the reply, and what is told, a date with it.
