@@ -1,10 +1,9 @@
 -- The theorem over the two ends: it holds at the beginning, and along a run it says what confirmation means.
 use mathlib.Core.Path.{_≡_, sym, _∙_}
-use mathlib.Core.List.{List·Memᴰ·not-nil}
 use mathlib.Core.Logic.{inl, ⊎-elim}
 use Prim.Native.Nat.{ℕ}
 use native.Mathlib.Omega.{arith}
-use Rattle.line.specs.Line.{_∈_, empty}
+use Rattle.line.specs.Line.{_∈_}
 use Rattle.line.proofs.CoreEnds
 use Rattle.line.proofs.CoreEnds.{key-message, no-key-message, Ends, Pair}
 use Rattle.line.proofs.CoreSent
@@ -28,8 +27,6 @@ module _ (E : Ends) where
     ended = λ d k m h c. absurd (f .none-sent d h .close k m c);
     agreed = λ e. absurd (omega (arith, f .idle));
     taken = λ t n k h e g. never t n k h e;
-    taken-old = λ m h. absurd (List·Memᴰ·not-nil (rw (f .none-taken) at h));
-    rising = rw (f .none-taken) empty;
   }
     where
       never : {A : Type 0} (t : Text) (n : ℕ) (k : Keys) → t ∈ s .from-a → carries t ≡ key-message n k → A

@@ -5,7 +5,7 @@ use mathlib.Core.List.{List·Memᴰ·cases-cons, List·Memᴰ·eq-of-singleton, 
 use mathlib.Core.Logic.{_⊎_, inl, inr, ⊎-elim}
 use Prim.Native.Nat.{ℕ, suc, _≤_, _<_}
 use native.Mathlib.Omega.{arith}
-use Rattle.line.specs.Line.{_∈_, Rising}
+use Rattle.line.specs.Line.{_∈_}
 use Rattle.line.proofs.CoreEnds
 use Rattle.line.proofs.CoreEnds.{key-message, no-key-message, answer, Ends, Pair}
 
@@ -73,8 +73,6 @@ module _ (E : Ends) where
     pub agreed : phase (s .a) ≡ 2 → expected (s .b) ≡ next (s .a)
     pub taken : (t : Text) (n : ℕ) (k : Keys) → t ∈ s .from-a → carries t ≡ key-message n k → suc n ≡ expected (s .b)
         → n ∈ s .accepted
-    pub taken-old : (m : ℕ) → m ∈ s .accepted → m < expected (s .b)
-    pub rising : Rising (s .accepted)
 
   -- after a call at A's end
   abbrev pub next-a : Pair Entry Text → Entry → List Text → Pair Entry Text
@@ -146,8 +144,6 @@ module _ (E : Ends) where
     sound = λ t n k h e. i .sound t n k (old t n k h e) e;
     agreed = agree;
     taken = λ t n k h e g. i .taken t n k (old t n k h e) e g;
-    taken-old = i .taken-old;
-    rising = i .rising;
   }
     where
       old : (t : Text) (n : ℕ) (k : Keys) → t ∈ (said ++ s .from-a) → carries t ≡ key-message n k → t ∈ s .from-a
@@ -225,8 +221,6 @@ module _ (E : Ends) where
     taken = λ t n k h e g.
         ⊎-elim (λ (f : t ≡ t₀). let q : n ≡ next (s .a) = cc in absurd (omega (arith, i .bound)))
         (λ (f : t ∈ s .from-a). i .taken t n k f e g) (cases t h);
-    taken-old = i .taken-old;
-    rising = i .rising;
   }
     where
       cases : (t : Text) → t ∈ (t₀ ∷ s .from-a) → (t ≡ t₀) ⊎ (t ∈ s .from-a)

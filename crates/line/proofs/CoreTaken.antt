@@ -1,10 +1,10 @@
 -- Every call at B's end keeps what holds along a run.
 use mathlib.Core.Path.{_≡_, sym, ap, _∙_}
-use mathlib.Core.List.{List, [], _∷_, _++_, List·Memᴰ·head, List·Memᴰ·append-cases, List·Memᴰ·cases-cons}
+use mathlib.Core.List.{List, [], _∷_, _++_, List·Memᴰ·head, List·Memᴰ·append-cases}
 use mathlib.Core.Logic.{_⊎_, inl, inr, ⊎-elim}
 use Prim.Native.Nat.{ℕ, suc, _≤_}
 use native.Mathlib.Omega.{arith}
-use Rattle.line.specs.Line.{_∈_, more}
+use Rattle.line.specs.Line.{_∈_}
 use Rattle.line.proofs.CoreEnds
 use Rattle.line.proofs.CoreEnds.{key-message, answer, no-answer, Ends, Pair}
 use Rattle.line.proofs.CoreSent
@@ -39,8 +39,6 @@ module _ (E : Ends) where
     sound = i .sound;
     agreed = λ e. ex ∙ i .agreed e;
     taken = λ t n k h e g. i .taken t n k h e (g ∙ ex);
-    taken-old = λ m h. omega (arith, i .taken-old m h);
-    rising = i .rising;
   }
     where
       at-y : (m : ℕ) → CoreSent.Root E (s .from-a) (expected (s .b)) m → CoreSent.Root E (s .from-a) (expected y) m
@@ -100,10 +98,6 @@ module _ (E : Ends) where
         let q : expected (s .b) ≡ next (s .a) = i .agreed e in
         absurd (omega (arith, i .below t₀ n₀ (incoming y) there is));
     taken = λ t n k h e g. let q : n ≡ n₀ = omega arith in List·Memᴰ·head q;
-    taken-old = λ m h.
-        ⊎-elim (λ (g : m ≡ n₀). omega arith) (λ (g : m ∈ s .accepted). omega (arith, i .taken-old m g))
-        (List·Memᴰ·cases-cons h);
-    rising = more {n = n₀} {l = s .accepted} (λ m g. omega (arith, i .taken-old m g)) (i .rising);
   }
 
   -- every call at B's end

@@ -2,6 +2,7 @@ pub mod CoreEnds
 pub mod CoreSent
 pub mod CoreTaken
 pub mod Core
+pub mod CoreRising
 pub mod CardSlots
 pub mod CardTurn
 pub mod CardEvent

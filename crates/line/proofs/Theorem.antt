@@ -24,6 +24,7 @@ use Rattle.line.proofs.CoreEnds.{Carried, key-message, no-key-message, 
 use Rattle.line.proofs.CoreSent
 use Rattle.line.proofs.CoreTaken
 use Rattle.line.proofs.Core
+use Rattle.line.proofs.CoreRising
 use Rattle.line.proofs.CardEnds.{carried-by, called-by, mac-under, Read-as, read-as}
 use Rattle.line.proofs.CardKept.{Good, good-fresh, good-run, seen, see, E, makes, takes}
 use Rattle.line.proofs.CardFresh.{started, just-loaded}
@@ -39,11 +40,10 @@ module _ (a b name : Text) (top : Top) where
     accepted = s .accepted;
   }
 
-  -- what holds along a run
-  pub record Run (s : State) : Type 0 where
+  -- what holds of both cards along a run
+  pub record Cards (s : State) : Type 0 where
     pub card-a : Good name top a b (s .a)
     pub card-b : Good name top b a (s .b)
-    pub along : CoreSent.Along (E a b name top) (view s)
 
   -- ---- the premise on MACs
 
@@ -98,32 +98,39 @@ module _ (a b name : Text) (top : Top) where
 
   -- ---- every run
 
-  pub along : {s₀ s : State} → Afresh a b name top s₀ → Reach a b name top s₀ s → Distinct a b name top (s .from-a)
-      → Run s
-  along {s₀} f begin d = record {
+  pub cards : {s₀ s : State} → Afresh a b name top s₀ → Reach a b name top s₀ s → Cards s
+  cards {s₀} f begin = record {
     card-a = good-fresh name top a b (s₀ .a) (f .card-a);
     card-b = good-fresh name top b a (s₀ .b) (f .card-b);
-    along = Core.beginning (E a b name top) (view s₀) (beginning s₀ f);
   }
+  cards f (step-a {s = s} r c may) =
+      let p : Cards s = cards f r in
+      record { card-a = good-run name top a b (s .from-b) (s .a) c (p .card-a) may; card-b = p .card-b }
+  cards f (step-b {s = s} r c may) =
+      let p : Cards s = cards f r in
+      record { card-a = p .card-a; card-b = good-run name top b a (s .from-a) (s .b) c (p .card-b) may }
+
+  rises : {s₀ s : State} → Afresh a b name top s₀ → Reach a b name top s₀ s
+      → CoreRising.Rises (E a b name top) (see name top a (s .b)) (s .accepted)
+  rises {s₀} f begin = CoreRising.beginning (E a b name top) (view s₀) (beginning s₀ f)
+  rises f (step-a r c may) = rises f r
+  rises f (step-b {s = s} r c may) =
+      CoreRising.keep (E a b name top) (see name top a (s .b)) (see name top a (run (s .b) c .table)) (s .from-a)
+      (texts (run (s .b) c .outcome .reply)) (counted a c (run (s .b) c .outcome .answer)) (s .accepted) (rises f r)
+      (takes a b name top (s .from-a) (s .b) c (cards f r .card-b) may)
+
+  pub along : {s₀ s : State} → Afresh a b name top s₀ → Reach a b name top s₀ s → Distinct a b name top (s .from-a)
+      → CoreSent.Along (E a b name top) (view s)
+  along {s₀} f begin d = Core.beginning (E a b name top) (view s₀) (beginning s₀ f)
   along f (step-a {s = s} r c may) d =
       let d′ : Distinct a b name top (s .from-a) = fewer (texts (run (s .a) c .outcome .reply)) (s .from-a) d in
-      let p : Run s = along f r d′ in
-      record {
-        card-a = good-run name top a b (s .from-b) (s .a) c (p .card-a) may;
-        card-b = p .card-b;
-        along = CoreSent.keep-a (E a b name top) (view s) (see name top b (run (s .a) c .table))
-            (texts (run (s .a) c .outcome .reply)) (p .along) (apart (s .from-a) d′)
-            (makes a b name top (s .from-b) (s .a) c (p .card-a) may);
-      }
+      CoreSent.keep-a (E a b name top) (view s) (see name top b (run (s .a) c .table))
+      (texts (run (s .a) c .outcome .reply)) (along f r d′) (apart (s .from-a) d′)
+      (makes a b name top (s .from-b) (s .a) c (cards f r .card-a) may)
   along f (step-b {s = s} r c may) d =
-      let p : Run s = along f r d in
-      record {
-        card-a = p .card-a;
-        card-b = good-run name top b a (s .from-a) (s .b) c (p .card-b) may;
-        along = CoreTaken.keep-b (E a b name top) (view s) (see name top a (run (s .b) c .table))
-            (texts (run (s .b) c .outcome .reply)) (counted a c (run (s .b) c .outcome .answer)) (p .along)
-            (takes a b name top (s .from-a) (s .b) c (p .card-b) may);
-      }
+      CoreTaken.keep-b (E a b name top) (view s) (see name top a (run (s .b) c .table))
+      (texts (run (s .b) c .outcome .reply)) (counted a c (run (s .b) c .outcome .answer)) (along f r d)
+      (takes a b name top (s .from-a) (s .b) c (cards f r .card-b) may)
 
   -- ---- the conclusions
 
@@ -167,7 +174,7 @@ module _ (a b name : Text) (top : Top) where
   agreement {s₀} {s} f r d for-b h ph =
       let mine : see name top b (s .a) ≡ for-b = seen-is b (s .a) for-b h in
       let m : CoreEnds.Meets (E a b name top) (view s) =
-      Core.conclusion (E a b name top) (view s) (along f r d .along) (apart (s .from-a) d)
+      Core.conclusion (E a b name top) (view s) (along f r d) (apart (s .from-a) d)
       (ap (λ (e : Entry). e .phase) mine ∙ ph) in
       let k : Read-as a b name top (m .message) (m .number) (see name top b (s .a) .outgoing) =
       read-as a b name top (m .message) (m .number) (see name top b (s .a) .outgoing) (m .is) in
@@ -176,9 +183,8 @@ module _ (a b name : Text) (top : Top) where
       there-at-b (entry-of a (s .b)) (m .number) low (m .b-count) in
       agreed s for-b (there .0) mine (seen-is a (s .b) (there .0) (there .1)) (there .1) m k
 
-  pub rise : {s₀ s : State} → Afresh a b name top s₀ → Reach a b name top s₀ s → Distinct a b name top (s .from-a)
-      → Rising (s .accepted)
-  rise f r d = along f r d .along .rising
+  pub rise : {s₀ s : State} → Afresh a b name top s₀ → Reach a b name top s₀ s → Rising (s .accepted)
+  rise f r = rises f r .rising
 
   -- ---- runs after runs
 

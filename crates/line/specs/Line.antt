@@ -194,7 +194,7 @@ module _ (a b name : Text) (top : Top) where
     pub agreement : {s₀ s : State} → Afresh s₀ → Reach s₀ s → Distinct (s .from-a)
         → (for-b : Entry) → entry-of b (s .a) ≡ some for-b → for-b .phase ≡ confirmed → Agreed s for-b
     -- the counts of the key messages that B accepts from A strictly rise
-    pub rise : {s₀ s : State} → Afresh s₀ → Reach s₀ s → Distinct (s .from-a) → Rising (s .accepted)
+    pub rise : {s₀ s : State} → Afresh s₀ → Reach s₀ s → Rising (s .accepted)
     -- an old ESM that arrives after a resend never leaves A confirmed with keys that B does not hold
     pub late-error-is-harmless : {s₀ s : State} → Afresh s₀ → Late-error s₀ s → Distinct (s .from-a)
         → (for-b : Entry) → entry-of b (s .a) ≡ some for-b → for-b .phase ≡ confirmed → Agreed s for-b
