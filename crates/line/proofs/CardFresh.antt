@@ -1,8 +1,8 @@
--- A card that was started, or that was just loaded for the other, is fresh.
-use mathlib.Core.Path.{_≡_, refl, _∙_, subst}
+-- A card that was started, or that was just loaded for the other, is fresh; one that has the other is not loaded again.
+use mathlib.Core.Path.{_≡_, refl, sym, _∙_, subst}
 use mathlib.Core.Bool.{Bool, true, false, not}
 use mathlib.Core.List.{List, _∷_}
-use mathlib.Core.Logic.{inl, inr}
+use mathlib.Core.Logic.{_≢_, inl, inr}
 use mathlib.Core.Option.{Option, none, some}
 use Prim.Native.Nat.{ℕ, zero, suc}
 use native.Mathlib.Omega.{arith}
@@ -18,13 +18,13 @@ use Rattle.partner.specs.Changes.{loaded}
 use Rattle.image.specs.Table.{Table, legal, identities, differs, find, place}
 use Rattle.calls.specs.Words.{if_then_else_}
 use Rattle.calls.specs.Calls.{load, After, refuse, entry-of, placed, loading, perform, run, start}
-use Rattle.image.specs.Table.{empties}
+use Rattle.image.specs.Table.{holding, empties}
 use Rattle.calls.proofs.Tests.{by-case}
 use Rattle.partner.proofs.Naming.{bare-filled, filled-filled}
 use Rattle.calls.proofs.Slots.{empty-is, empty-nobody}
 use Rattle.line.specs.Line.{Fresh}
 use Rattle.line.proofs.CardSlots.{entry-named, entry-unnamed}
-use Rattle.line.proofs.CardRun.{loads-one}
+use Rattle.line.proofs.CardRun.{Loads, loads-one}
 
 -- nobody is in empty slots
 find-empties : (id : Text) → is-filled id ≡ true → (n : ℕ) → find id (empties n) ≡ none
@@ -54,28 +54,41 @@ started name top own other t h = go (is-name own) refl h
         (record { identity = bare-filled own q; entry = inl (vacant (is-name other) refl) })
     go false q e = absurd (let z : _≡_ {A = ℕ} 0 1 = cc in omega arith)
 
-pub just-loaded : (name : Text) (top : Top) (own other : Text) (t : Table) → bare (t .own) ≡ own
-    → run t (load other name top) .outcome .answer ≡ 0 → Fresh name top own other (run t (load other name top) .table)
+-- a load that is done
+load-done : (id key-name : Text) (key : Top) (t : Table) → run t (load id key-name key) .outcome .answer ≡ 0
+    → (m : List Entry) × (run t (load id key-name key) .table ≡ holding t m) × Loads id key-name key t m
 unfolding run perform loading
-just-loaded name top own other t ours done =
-    by-case P (legal t) (perform t (load other name top)) (refuse t 13) (λ l. loaded-one)
-    (λ l z. absurd (omega arith)) done
+load-done id key-name key t =
+    by-case P (legal t) (perform t (load id key-name key)) (refuse t 13) (λ l. in-legal) (λ l z. absurd (omega arith))
   where
     P : After → Type 0
-    P y = y .outcome .answer ≡ 0 → Fresh name top own other (y .table)
+    P y = y .outcome .answer ≡ 0 → (m : List Entry) × (y .table ≡ holding t m) × Loads id key-name key t m
 
-    go : is-name other ≡ true → differs (filled other) (identities (t .slots)) ≡ true
-        → (o : Option (List Entry)) → place (loaded (name-of other) (name-of name) top) (t .slots) ≡ o → P (placed t o)
+    go : is-name id ≡ true → differs (filled id) (identities (t .slots)) ≡ true
+        → (o : Option (List Entry)) → place (loaded (name-of id) (name-of key-name) key) (t .slots) ≡ o → P (placed t o)
     go named free none h z = absurd (omega arith)
-    go named free (some m) h z =
-        record { identity = ours; entry = inr (loads-one other name top t m named free h .present) }
+    go named free (some m) h z = (m, refl, loads-one id key-name key t m named free h)
 
-    loaded-one : P (loading t other name top)
-    loaded-one =
+    in-legal : P (loading t id key-name key)
+    in-legal =
         by-case P _ _ _ (λ p z. absurd (omega arith)) (λ p.
         by-case P _ _ _ (λ q z. absurd (omega arith)) (λ q.
         by-case P _ _ _ (λ r z. absurd (omega arith)) (λ r.
-        let h = and-true (is-name other) (differs (filled other) (t .own ∷ identities (t .slots))) (not-false _ p) in
+        let h = and-true (is-name id) (differs (filled id) (t .own ∷ identities (t .slots))) (not-false _ p) in
         go (h .0)
-        (and-true (not (same (t .own) (filled other))) (differs (filled other) (identities (t .slots))) (h .1) .1)
-        (place (loaded (name-of other) (name-of name) top) (t .slots)) refl)))
+        (and-true (not (same (t .own) (filled id))) (differs (filled id) (identities (t .slots))) (h .1) .1)
+        (place (loaded (name-of id) (name-of key-name) key) (t .slots)) refl)))
+
+pub just-loaded : (name : Text) (top : Top) (own other : Text) (t : Table) → bare (t .own) ≡ own
+    → run t (load other name top) .outcome .answer ≡ 0 → Fresh name top own other (run t (load other name top) .table)
+just-loaded name top own other t ours done =
+    let d = load-done other name top t done in
+    subst (λ (u : Table). Fresh name top own other u) (sym (d .1))
+    (record { identity = ours; entry = inr (d .2 .present) })
+
+-- who is in the table is not loaded
+pub loaded-once : (other key-name : Text) (key : Top) (t : Table) (e : Entry) → entry-of other t ≡ some e
+    → run t (load other key-name key) .outcome .answer ≢ 0
+loaded-once other key-name key t e there done =
+    let n : entry-of other t ≡ none = load-done other key-name key t done .2 .absent in
+    let z : _≡_ {A = ℕ} 0 1 = cc in omega arith

@@ -59,7 +59,7 @@ module _ (name : Text) (top : Top) where
       (ap top-of (sym p) ∙ k .key, ap (λ (x : Entry). x .name) (sym p) ∙ k .named)
 
   pub good-run : (own other : Text) (l : List Text) (t : Table) (c : Call) → Good own other t
-      → Allowed name top other l c → Good own other (run t c .table)
+      → Allowed name top other l c (run t c .outcome .answer) → Good own other (run t c .table)
   good-run own other l t c g may = go (run-local name top own other l t c (g .identity) may)
     where
       go : {k : List ℕ} → Local name top own other l t (run t c) k → Good own other (run t c .table)
@@ -84,6 +84,18 @@ module _ (name : Text) (top : Top) where
         entry = inr (known-loaded other (run t c .table) now);
       }
 
+  -- the other's entry stays in the table
+  pub there-still : (other : Text) (l : List Text) (t : Table) (c : Call)
+      → Allowed name top other l c (run t c .outcome .answer) → (e : Entry) → entry-of other t ≡ some e
+      → (f : Entry) × (entry-of other (run t c .table) ≡ some f)
+  there-still other l t c may e h = go (run-local name top (bare (t .own)) other l t c refl may)
+    where
+      go : {k : List ℕ} → Local name top (bare (t .own)) other l t (run t c) k
+          → (f : Entry) × (entry-of other (run t c .table) ≡ some f)
+      go (elsewhere same kept away mute) = (e, kept ∙ h)
+      go (here f x same found lawful them named ev now reply) = (x .entry, now)
+      go (loads same absent now reply mute) = (entry-for name top other, now)
+
   -- ---- the entry for the other, as loading makes it where there is none
 
   unfoldable pub seen : Text → Option Entry → Entry
@@ -98,7 +110,8 @@ module _ (a b name : Text) (top : Top) where
   E = ends a b name top
 
   -- what any call does at A's end, and at B's
-  pub makes : (l : List Text) (t : Table) (c : Call) → Good name top a b t → Allowed name top b l c
+  pub makes : (l : List Text) (t : Table) (c : Call) → Good name top a b t
+      → Allowed name top b l c (run t c .outcome .answer)
       → CoreEnds.Made E (see name top b t) (see name top b (run t c .table)) l (texts (run t c .outcome .reply))
   unfolding seen
   makes l t c g may = go (run-local name top a b l t c (g .identity) may)
@@ -122,7 +135,8 @@ module _ (a b name : Text) (top : Top) where
           (CoreEnds.Made.quiet (record { phase = refl; next = refl; outgoing = refl })
           (λ x h. absurd (no-texts (run t c .outcome .reply) x reply h)))
 
-  pub takes : (l : List Text) (t : Table) (c : Call) → Good name top b a t → Allowed name top a l c
+  pub takes : (l : List Text) (t : Table) (c : Call) → Good name top b a t
+      → Allowed name top a l c (run t c .outcome .answer)
       → CoreEnds.Took E (see name top a t) (see name top a (run t c .table)) l (texts (run t c .outcome .reply))
       (counted a c (run t c .outcome .answer))
   unfolding seen

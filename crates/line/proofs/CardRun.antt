@@ -63,12 +63,17 @@ module _ (name : Text) (top : Top) (us other : Text) (l : List Text) (t : Table)
   abbrev Fits : Call → After → Type 0
   Fits c y = Local name top us other l t y (counted other c (y .outcome .answer))
 
+  -- what is asked of a call with this result
+  abbrev Asked : Call → After → Type 0
+  Asked c y = Allowed name top other l c (y .outcome .answer)
+
   module _ (ours : bare (t .own) ≡ us) (fine : legal t ≡ true) where
     -- ---- receive
 
-    receive-local : (room : ℕ) (text : Text) → Allowed name top other l (receive room text)
+    receive-local : (room : ℕ) (text : Text)
+        → ((r : Reading) → read text ≡ some r → r .org ≡ other → text ∈ l)
         → Fits (receive room text) (receiving t text (read text))
-    unfolding Allowed receiving counted count-from if_then_else_
+    unfolding receiving counted count-from if_then_else_
     receive-local room text may = go (read text) refl
       where
         away-count : (r : Reading) → read text ≡ some r → r .org ≢ other → (n : ℕ)
@@ -102,23 +107,26 @@ module _ (name : Text) (top : Top) (us other : Text) (l : List Text) (t : Table)
 
     -- ---- load
 
-    load-local : (id key-name : Text) (key : Top) → Allowed name top other l (load id key-name key)
+    load-local : (id key-name : Text) (key : Top) → Asked (load id key-name key) (loading t id key-name key)
         → Fits (load id key-name key) (loading t id key-name key)
     unfolding Allowed loading counted
-    load-local id key-name key may =
+    load-local id key-name key =
         let refuses = idle name top us other l t (load id key-name key) in
-        by-case (Fits (load id key-name key)) _ _ _ (λ p. refuses 10 refl) (λ p.
-        by-case (Fits (load id key-name key)) _ _ _ (λ q. refuses 12 refl) (λ q.
-        by-case (Fits (load id key-name key)) _ _ _ (λ r. refuses 11 refl) (λ r.
+        by-case P _ _ _ (λ p may. refuses 10 refl) (λ p.
+        by-case P _ _ _ (λ q may. refuses 12 refl) (λ q.
+        by-case P _ _ _ (λ r may. refuses 11 refl) (λ r.
         let h = and-true (is-name id) (differs (filled id) (t .own ∷ identities (t .slots))) (not-false _ p) in
         go (h .0) (and-true (not (same (t .own) (filled id))) (differs (filled id) (identities (t .slots))) (h .1) .1)
         (place (loaded (name-of id) (name-of key-name) key) (t .slots)) refl)))
       where
+        P : After → Type 0
+        P y = Asked (load id key-name key) y → Fits (load id key-name key) y
+
         go : is-name id ≡ true → differs (filled id) (identities (t .slots)) ≡ true
             → (o : Option (List Entry)) → place (loaded (name-of id) (name-of key-name) key) (t .slots) ≡ o
-            → Fits (load id key-name key) (placed t o)
-        go named free none h = idle name top us other l t (load id key-name key) 9 refl
-        go named free (some m) h = by-same (same id other) refl
+            → P (placed t o)
+        go named free none h may = idle name top us other l t (load id key-name key) 9 refl
+        go named free (some m) h may = by-same (same id other) refl
           where
             f : Loads id key-name key t m
             f = loads-one id key-name key t m named free h
@@ -126,7 +134,7 @@ module _ (name : Text) (top : Top) (us other : Text) (l : List Text) (t : Table)
             by-same : (b : Bool) → same id other ≡ b → Fits (load id key-name key) (placed t (some m))
             by-same true q =
                 let io : id ≡ other = same-equal id other q in
-                let k = may io in
+                let k = may refl io in
                 loads refl (subst (λ (w : Text). entry-of w t ≡ none) io (f .absent))
                 (rw (k .0, k .1, io) at (f .present)) refl refl
             by-same false q =
@@ -136,23 +144,24 @@ module _ (name : Text) (top : Top) (us other : Text) (l : List Text) (t : Table)
 
     -- ---- remove
 
-    remove-local : (id : Text) → Allowed name top other l (remove id)
+    remove-local : (id : Text) → Asked (remove id) (at-partner t id emptied)
         → Fits (remove id) (at-partner t id emptied)
     unfolding Allowed at-partner counted
-    remove-local id away = go (entry-of id t) refl
+    remove-local id = go (entry-of id t) refl
       where
-        go : (o : Option Entry) → entry-of id t ≡ o → Fits (remove id) (turned t id emptied o)
-        go none h = idle name top us other l t (remove id) 3 refl
-        go (some e) h =
+        go : (o : Option Entry) → entry-of id t ≡ o → Asked (remove id) (turned t id emptied o)
+            → Fits (remove id) (turned t id emptied o)
+        go none h may = idle name top us other l t (remove id) 3 refl
+        go (some e) h may =
             let named : is-name id ≡ true = entry-held t id e h .name in
             elsewhere refl
-            (other-stays name top us other l t ours fine id (put (filled id) empty (t .slots)) named away
+            (other-stays name top us other l t ours fine id (put (filled id) empty (t .slots)) named (may refl)
             (row-empty (filled id) (t .slots)))
             (λ x i. absurd (no-texts [] x refl i)) refl
 
     -- ---- every call in a legal table
 
-    perform-local : (c : Call) → Allowed name top other l c → Fits c (perform t c)
+    perform-local : (c : Call) → Asked c (perform t c) → Fits c (perform t c)
     unfolding perform Allowed counted
     perform-local (receive room text) may =
         by-case (Fits (receive room text)) (ltb room 256) (refuse t 6) (receiving t text (read text))
@@ -181,8 +190,8 @@ module _ (name : Text) (top : Top) (us other : Text) (l : List Text) (t : Table)
         (λ io x. refl) (λ away n. refl)
 
   -- any call of a card with this identity
-  pub run-local : (c : Call) → bare (t .own) ≡ us → Allowed name top other l c → Fits c (run t c)
+  pub run-local : (c : Call) → bare (t .own) ≡ us → Asked c (run t c) → Fits c (run t c)
   unfolding run
-  run-local c ours may =
-      by-case (Fits c) (legal t) (perform t c) (refuse t 13) (λ fine. perform-local ours fine c may)
-      (λ p. idle name top us other l t c 13 refl)
+  run-local c ours =
+      by-case (λ (y : After). Asked c y → Fits c y) (legal t) (perform t c) (refuse t 13)
+      (λ fine. perform-local ours fine c) (λ p may. idle name top us other l t c 13 refl)

@@ -4,8 +4,6 @@ use mathlib.Core.List.{[], _∷_}
 use mathlib.Core.Option.{none}
 use Prim.Native.Nat.{ℕ}
 use Rattle.octets.specs.Text.{Text, ascii}
-use Rattle.keying.specs.declared.Top.{Top}
-use Rattle.keying.specs.declared.Top.the-variants.{Pair}
 use Rattle.keying.specs.Parity.{odd, odd-byte}
 use Rattle.keying.specs.Keys.{odd-top, unseal}
 use Rattle.csm.specs.Message.{read}
@@ -25,10 +23,12 @@ use Rattle.calls.specs.Words.{any, some-has}
 use Rattle.calls.specs.Outcome.{success, nothing, keys, confirmation}
 use Rattle.calls.specs.Receive as by-class
 use Rattle.calls.specs.Build as building
-use Rattle.calls.specs.Calls.{receive, build-ksm, give-up, load, at-partner, receiving, loading, perform, run}
+use Rattle.calls.specs.Calls.{receive, build-ksm, give-up, load, remove, refuse, at-partner, receiving, loading}
+use Rattle.calls.specs.Calls.{perform, run}
 use Rattle.calls.proofs.Example as worked
-use Rattle.calls.proofs.Example.{MILL, HARBOR}
 use Rattle.line.specs.Line.{entry-for}
+use Rattle.line.specs.Worked.{MILL, HARBOR, key-name, pair, other-name, other-key, mistyped, request}
+use Rattle.line.specs.Worked.{first-ksm, second-ksm}
 
 -- what is opened for a call to be computed
 unfoldable pub computes : Unit {0}
@@ -45,29 +45,10 @@ unfolding
     at-partner receiving loading perform run
 computes = tt
 
--- ---- the pair that they share, and its name
-
-abbrev pub key-name : Text
-key-name = ascii "K1"
-
-abbrev pub pair : Top
-pair = Pair 0x0123456789ABCDEF 0xFEDCBA9876543210
-
 -- ---- two requests: other keys, with the same exclusive-or
 
 abbrev pub asked : ℕ → ℕ → Text → KeyRequest
 asked value flags name = record { key = value; flags = flags; name = name-of name }
-
-abbrev pub request : KeyRequest → KeyRequest → Request
-request k l = record {
-  count = 2;
-  first = k;
-  second = l;
-  kind = 0;
-  iv = 0;
-  dated = 0;
-  date = record { digits = ascii "000000000000" };
-}
 
 abbrev pub first-request : Request
 first-request = request (asked 0x1122334455667788 2 (ascii "ONE")) (asked 0x99AABBCCDDEEFF00 0 [])
@@ -84,14 +65,7 @@ first-keys = two-keys (data-key 0x1122334455667788 (ascii "ONE")) (data-key 0x99
 abbrev pub second-keys : KeySet
 second-keys = two-keys (data-key 0x1E2C3E485E6C7E80 []) (data-key 0x96A4B6C0D6E4F608 [])
 
--- ---- the texts
-
-abbrev pub first-ksm : Text
-first-ksm =
-    ascii "CSM(MCL/KSM RCV/HARBOR ORG/MILL KD/3EB3B72576BBBE83..ONE KD/5601104F2DF94405 CTP/1 MAC/3130 F0C0 )"
-
-abbrev pub second-ksm : Text
-second-ksm = ascii "CSM(MCL/KSM RCV/HARBOR ORG/MILL KD/91244E2E40DC0C9F KD/8B22C6A850812124 CTP/2 MAC/8535 60F0 )"
+-- ---- the answer
 
 -- under both requests' keys
 abbrev pub answering-rsm : Text
@@ -117,6 +91,18 @@ pub mill-loads : run (started MILL) (load HARBOR key-name pair)
     ≡ record { outcome = success [] nothing; table = mill 1 0 no-keys }
 unfolding computes
 mill-loads = refl
+
+pub mill-removes-nobody : run (started MILL) (remove HARBOR) ≡ refuse (started MILL) 3
+unfolding computes
+mill-removes-nobody = refl
+
+pub mill-mistypes : run (started MILL) (load HARBOR key-name mistyped) ≡ refuse (started MILL) 11
+unfolding computes
+mill-mistypes = refl
+
+pub mill-loads-again : run (mill 1 0 no-keys) (load HARBOR other-name other-key) ≡ refuse (mill 1 0 no-keys) 10
+unfolding computes
+mill-loads-again = refl
 
 pub harbor-loads : run (started HARBOR) (load MILL key-name pair)
     ≡ record { outcome = success [] nothing; table = harbor 1 no-keys }

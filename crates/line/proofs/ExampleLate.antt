@@ -17,14 +17,14 @@ use Rattle.calls.specs.Words.{if_then_else_}
 use Rattle.calls.specs.Outcome.{P, success, complaint, nothing, keys, confirmation, failure}
 use Rattle.calls.specs.Receive as by-class
 use Rattle.calls.specs.Calls.{receive, build-ksm, After, entry-of, run}
-use Rattle.calls.proofs.Example.{MILL, HARBOR}
 use Rattle.line.specs.Line.{_∈_, State, texts, count-in, count-from, counted, Allowed, entry-for}
 use Rattle.line.specs.Line.{a-to-b, called-for, Distinct, Agreed, begin, Late-error}
+use Rattle.line.specs.Worked.{MILL, HARBOR, key-name, pair, first-ksm, third-ksm}
 use Rattle.line.proofs.CoreEnds.{Answer, answer}
 use Rattle.line.proofs.CardEnds.{carried-in, carried-by, called-by, carried-at}
 use Rattle.line.proofs.Theorem.{late-error-is-harmless}
-use Rattle.line.proofs.ExampleCards.{computes, key-name, pair, asked, data-key, first-keys}
-use Rattle.line.proofs.ExampleCards.{first-ksm, answering-rsm, mill, harbor}
+use Rattle.line.proofs.ExampleCards.{computes, asked, data-key, first-keys}
+use Rattle.line.proofs.ExampleCards.{answering-rsm, mill, harbor}
 use Rattle.line.proofs.ExampleRuns.{state, both-started, afresh, answered, answered-run, Run}
 use Rattle.line.proofs.ExampleRuns.{after-mill, after-harbor, at-mill, at-harbor}
 
@@ -44,9 +44,6 @@ new-request = record {
 abbrev new-keys : KeySet
 new-keys = one-key (data-key 0x0F1E2D3C4B5A6978 (ascii "TWO"))
 
-abbrev new-ksm : Text
-new-ksm = ascii "CSM(MCL/KSM RCV/HARBOR ORG/MILL KD/3C71AB519BB27BBC..TWO CTP/2 MAC/F2A4 9E9B )"
-
 abbrev new-rsm : Text
 new-rsm = ascii "CSM(MCL/RSM RCV/MILL ORG/HARBOR MAC/E7B9 DD5F )"
 
@@ -64,11 +61,11 @@ unfolding computes by-class.receive-esm failed
 mill-breaks = refl
 
 mill-builds-new : run (mill 2 broken no-keys) (build-ksm 256 HARBOR new-request)
-    ≡ record { outcome = success new-ksm nothing; table = mill 3 waiting new-keys }
+    ≡ record { outcome = success third-ksm nothing; table = mill 3 waiting new-keys }
 unfolding computes
 mill-builds-new = refl
 
-harbor-takes-new : run (harbor 2 first-keys) (receive 256 new-ksm)
+harbor-takes-new : run (harbor 2 first-keys) (receive 256 third-ksm)
     ≡ record { outcome = success new-rsm (keys none none); table = harbor 3 new-keys }
 unfolding computes
 harbor-takes-new = refl
@@ -87,7 +84,7 @@ esm-reads = refl
 
 -- ---- the run
 
-counted-new : count-from MILL (read new-ksm) ≡ 2 ∷ []
+counted-new : count-from MILL (read third-ksm) ≡ 2 ∷ []
 unfolding computes count-from count-in
 counted-new = refl
 
@@ -103,7 +100,7 @@ abbrev broken-off : State
 broken-off = state (mill 2 broken no-keys) (harbor 2 first-keys) (first-ksm ∷ []) (complained 2) (1 ∷ [])
 
 abbrev two-sent : List Text
-two-sent = new-ksm ∷ first-ksm ∷ []
+two-sent = third-ksm ∷ first-ksm ∷ []
 
 abbrev agreed-anew : State
 agreed-anew =
@@ -118,7 +115,7 @@ anew =
     (receive 256 new-rsm) _ mill-confirms-new (λ r e o. List·Memᴰ·head refl)
     (rw counted-new at
     (at-harbor (state (mill 3 waiting new-keys) (harbor 2 first-keys) two-sent (complained 2) (1 ∷ []))
-    (receive 256 new-ksm) _ harbor-takes-new (λ r e o. List·Memᴰ·head refl)
+    (receive 256 third-ksm) _ harbor-takes-new (λ r e o. List·Memᴰ·head refl)
     (at-mill broken-off (build-ksm 256 HARBOR new-request) _ mill-builds-new
     (record { first = omega arith; second = omega arith }) begin)))
 
@@ -157,7 +154,7 @@ first-calls : called first-ksm ≡ answer 0x96359AC3
 unfolding computes called-by carried-by carried-in
 first-calls = refl
 
-new-calls : called new-ksm ≡ answer 0xE7B9DD5F
+new-calls : called third-ksm ≡ answer 0xE7B9DD5F
 unfolding computes called-by carried-by carried-in
 new-calls = refl
 
@@ -171,23 +168,23 @@ calls-of t m n r c =
 pub distinct : Distinct MILL HARBOR key-name pair (agreed-anew .from-a)
 distinct t u m n ht hu rt ru e =
     ⊎-elim
-    (λ (p : t ≡ new-ksm).
-    ⊎-elim (λ (q : u ≡ new-ksm). p ∙ sym q)
+    (λ (p : t ≡ third-ksm).
+    ⊎-elim (λ (q : u ≡ third-ksm). p ∙ sym q)
     (λ (q : u ∈ (first-ksm ∷ [])). apart u t n m (List·Memᴰ·eq-of-singleton q) p ru rt (sym e))
     (List·Memᴰ·cases-cons hu))
     (λ (p : t ∈ (first-ksm ∷ [])).
     let f : t ≡ first-ksm = List·Memᴰ·eq-of-singleton p in
-    ⊎-elim (λ (q : u ≡ new-ksm). apart t u m n f q rt ru e)
+    ⊎-elim (λ (q : u ≡ third-ksm). apart t u m n f q rt ru e)
     (λ (q : u ∈ (first-ksm ∷ [])). f ∙ sym (List·Memᴰ·eq-of-singleton q)) (List·Memᴰ·cases-cons hu))
     (List·Memᴰ·cases-cons ht)
   where
-    apart : {A : Type 0} (v w : Text) (j k : Ksm) → v ≡ first-ksm → w ≡ new-ksm
+    apart : {A : Type 0} (v w : Text) (j k : Ksm) → v ≡ first-ksm → w ≡ third-ksm
         → Reads v j → Reads w k → mac-for j ≡ mac-for k → A
     apart v w j k p q rv rw′ h =
         let x : mac-for j ≡ 0x96359AC3 =
         calls-of first-ksm j 0x96359AC3 (ap read (sym p) ∙ rv) first-calls in
         let y : mac-for k ≡ 0xE7B9DD5F =
-        calls-of new-ksm k 0xE7B9DD5F (ap read (sym q) ∙ rw′) new-calls in
+        calls-of third-ksm k 0xE7B9DD5F (ap read (sym q) ∙ rw′) new-calls in
         absurd (omega (arith, x, y, h))
 
 -- ---- confirmed, and what the theorem then says

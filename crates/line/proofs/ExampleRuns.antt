@@ -13,15 +13,17 @@ use Rattle.partner.specs.Entry.{waiting, confirmed, broken, no-keys}
 use Rattle.partner.specs.Changes.{sending, receiving as receiving-side}
 use Rattle.image.specs.Table.{Table}
 use Rattle.calls.specs.Words.{if_then_else_}
-use Rattle.calls.specs.Calls.{Call, receive, build-ksm, give-up, load, After, entry-of, run, start}
-use Rattle.calls.proofs.Example.{MILL, HARBOR}
+use Rattle.calls.specs.Calls.{Call, receive, build-ksm, give-up, load, remove, After, entry-of, run, start}
 use Rattle.line.specs.Line.{State, texts, count-in, count-from, counted, In-64-bits, Allowed}
 use Rattle.line.specs.Line.{entry-for, Reach, begin, step-a, step-b, Afresh, Distinct, Agreed}
+use Rattle.line.specs.Worked.{MILL, HARBOR, key-name, pair, other-name, other-key, mistyped}
+use Rattle.line.specs.Worked.{first-ksm, second-ksm}
 use Rattle.line.proofs.CardFresh as fresh
 use Rattle.line.proofs.Theorem.{agreement}
-use Rattle.line.proofs.ExampleCards.{computes, key-name, pair, first-request, second-request}
-use Rattle.line.proofs.ExampleCards.{first-keys, second-keys, first-ksm, second-ksm, answering-rsm, started}
-use Rattle.line.proofs.ExampleCards.{mill, harbor, mill-loads, harbor-loads, mill-builds, harbor-takes}
+use Rattle.line.proofs.ExampleCards.{computes, first-request, second-request}
+use Rattle.line.proofs.ExampleCards.{first-keys, second-keys, answering-rsm, started}
+use Rattle.line.proofs.ExampleCards.{mill, harbor, mill-removes-nobody, mill-mistypes, mill-loads}
+use Rattle.line.proofs.ExampleCards.{mill-loads-again, harbor-loads, mill-builds, harbor-takes}
 use Rattle.line.proofs.ExampleCards.{mill-confirms, mill-gives-up, mill-builds-again, mill-confirms-others}
 
 -- ---- the beginning: both cards are started
@@ -63,14 +65,18 @@ after-harbor s c y =
     (counted MILL c (y .outcome .answer) ++ s .accepted)
 
 pub at-mill : {s₀ : State} (s : State) (c : Call) (y : After) → run (s .a) c ≡ y
-    → Allowed key-name pair HARBOR (s .from-b) c → Run s₀ s → Run s₀ (after-mill s y)
-at-mill {s₀} s c y e may r = subst (λ (x : After). Run s₀ (after-mill s x)) e (step-a r c may)
+    → Allowed key-name pair HARBOR (s .from-b) c (y .outcome .answer) → Run s₀ s → Run s₀ (after-mill s y)
+at-mill {s₀} s c y e may r =
+    subst (λ (x : After). Run s₀ (after-mill s x)) e
+    (step-a r c (subst (λ (x : After). Allowed key-name pair HARBOR (s .from-b) c (x .outcome .answer)) (sym e) may))
 
 pub at-harbor : {s₀ : State} (s : State) (c : Call) (y : After) → run (s .b) c ≡ y
-    → Allowed key-name pair MILL (s .from-a) c → Run s₀ s → Run s₀ (after-harbor s c y)
-at-harbor {s₀} s c y e may r = subst (λ (x : After). Run s₀ (after-harbor s c x)) e (step-b r c may)
+    → Allowed key-name pair MILL (s .from-a) c (y .outcome .answer) → Run s₀ s → Run s₀ (after-harbor s c y)
+at-harbor {s₀} s c y e may r =
+    subst (λ (x : After). Run s₀ (after-harbor s c x)) e
+    (step-b r c (subst (λ (x : After). Allowed key-name pair MILL (s .from-a) c (x .outcome .answer)) (sym e) may))
 
--- ---- both load; MILL builds, HARBOR takes and answers
+-- ---- both load, MILL not without mistakes; MILL builds, HARBOR takes and answers
 
 first-small : In-64-bits first-request
 first-small = record { first = omega arith; second = omega arith }
@@ -85,12 +91,21 @@ count-of-first = refl
 abbrev pub answered : State
 answered = state (mill 2 waiting first-keys) (harbor 2 first-keys) (first-ksm ∷ []) (answering-rsm ∷ []) (1 ∷ [])
 
+-- MILL removes HARBOR, whom it does not have, and loads it mistyped, rightly, and once more with another key
+mistaken-run : Run both-started (state (mill 1 0 no-keys) (started HARBOR) [] [] [])
+unfolding texts Allowed
+mistaken-run =
+    at-mill (state (mill 1 0 no-keys) (started HARBOR) [] [] []) (load HARBOR other-name other-key) _ mill-loads-again
+    (λ z o. absurd (omega arith))
+    (at-mill both-started (load HARBOR key-name pair) _ mill-loads (λ z o. (refl, refl))
+    (at-mill both-started (load HARBOR key-name mistyped) _ mill-mistypes (λ z o. absurd (omega arith))
+    (at-mill both-started (remove HARBOR) _ mill-removes-nobody (λ z o. absurd (omega arith)) begin)))
+
 loaded-run : Run both-started (state (mill 1 0 no-keys) (harbor 1 no-keys) [] [] [])
 unfolding texts counted Allowed
 loaded-run =
     at-harbor (state (mill 1 0 no-keys) (started HARBOR) [] [] []) (load MILL key-name pair) _ harbor-loads
-    (λ o. (refl, refl))
-    (at-mill both-started (load HARBOR key-name pair) _ mill-loads (λ o. (refl, refl)) begin)
+    (λ z o. (refl, refl)) mistaken-run
 
 built-run : Run both-started (state (mill 2 waiting first-keys) (harbor 1 no-keys) (first-ksm ∷ []) [] [])
 unfolding texts Allowed

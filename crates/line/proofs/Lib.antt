@@ -16,3 +16,4 @@ pub mod Theorem
 pub mod ExampleCards
 pub mod ExampleRuns
 pub mod ExampleLate
+pub mod ExampleAsked

@@ -1,7 +1,7 @@
 -- The theorem about two cards on a bad line: `claims` proves the demand of specs/Line.antt.
 use mathlib.Core.Path.{_≡_, refl, sym, ap, _∙_, subst}
 use mathlib.Core.List.{List, _++_, List·Memᴰ·not-nil, Memᴰ·append-right}
-use mathlib.Core.Logic.{_⊎_, ⊎-elim}
+use mathlib.Core.Logic.{_⊎_, _≢_, ⊎-elim}
 use mathlib.Core.Option.{Option, none, some}
 use Prim.Native.Nat.{ℕ, suc, _+_, _≤_}
 use native.Mathlib.Omega.{arith}
@@ -15,7 +15,7 @@ use Rattle.partner.specs.declared.Entry.{Entry}
 use Rattle.partner.specs.Entry.{confirmed, limit}
 use Rattle.partner.specs.Changes.{loaded}
 use Rattle.image.specs.Table.{Table}
-use Rattle.calls.specs.Calls.{receive, entry-of, run}
+use Rattle.calls.specs.Calls.{receive, load, entry-of, run}
 use Rattle.calls.proofs.Readings.{ksm-parts}
 use Rattle.line.specs.Line.{_∈_, State, texts, counted, Rising, Allowed, entry-for, Reach, begin}
 use Rattle.line.specs.Line.{step-a, step-b, Afresh, a-to-b, called-for, Distinct, Agreed, Late-error, Claims}
@@ -26,8 +26,8 @@ use Rattle.line.proofs.CoreTaken
 use Rattle.line.proofs.Core
 use Rattle.line.proofs.CoreRising
 use Rattle.line.proofs.CardEnds.{carried-by, called-by, mac-under, Read-as, read-as}
-use Rattle.line.proofs.CardKept.{Good, good-fresh, good-run, seen, see, E, makes, takes}
-use Rattle.line.proofs.CardFresh.{started, just-loaded}
+use Rattle.line.proofs.CardKept.{Good, good-fresh, good-run, there-still, seen, see, E, makes, takes}
+use Rattle.line.proofs.CardFresh.{started, just-loaded, loaded-once}
 
 module _ (a b name : Text) (top : Top) where
   -- the two entries of a state
@@ -217,6 +217,32 @@ module _ (a b name : Text) (top : Top) where
       → for-b .phase ≡ confirmed → Agreed a b name top s for-b
   late-error-is-harmless f h d = agreement f (late-error-run h) d
 
+  -- ---- a card that has the other in its table
+
+  has-b : {s₀ s : State} → Reach a b name top s₀ s → (e : Entry) × (entry-of b (s₀ .a) ≡ some e)
+      → (e : Entry) × (entry-of b (s .a) ≡ some e)
+  has-b begin h = h
+  has-b (step-a {s = s} r c may) h =
+      let p = has-b r h in there-still name top b (s .from-b) (s .a) c may (p .0) (p .1)
+  has-b (step-b r c may) h = has-b r h
+
+  has-a : {s₀ s : State} → Reach a b name top s₀ s → (e : Entry) × (entry-of a (s₀ .b) ≡ some e)
+      → (e : Entry) × (entry-of a (s .b) ≡ some e)
+  has-a begin h = h
+  has-a (step-a r c may) h = has-a r h
+  has-a (step-b {s = s} r c may) h =
+      let p = has-a r h in there-still name top a (s .from-a) (s .b) c may (p .0) (p .1)
+
+  loaded-once-at-a : {s₀ s : State} → Reach a b name top s₀ s → (for-b : Entry) → entry-of b (s₀ .a) ≡ some for-b
+      → (key-name : Text) (key : Top) → run (s .a) (load b key-name key) .outcome .answer ≢ 0
+  loaded-once-at-a {s = s} r for-b h key-name key =
+      let p = has-b r (for-b, h) in loaded-once b key-name key (s .a) (p .0) (p .1)
+
+  loaded-once-at-b : {s₀ s : State} → Reach a b name top s₀ s → (for-a : Entry) → entry-of a (s₀ .b) ≡ some for-a
+      → (key-name : Text) (key : Top) → run (s .b) (load a key-name key) .outcome .answer ≢ 0
+  loaded-once-at-b {s = s} r for-a h key-name key =
+      let p = has-a r (for-a, h) in loaded-once a key-name key (s .b) (p .0) (p .1)
+
   pub claims : Claims a b name top
   claims = record {
     agreement = agreement;
@@ -224,4 +250,6 @@ module _ (a b name : Text) (top : Top) where
     late-error-is-harmless = late-error-is-harmless;
     started = started name top;
     just-loaded = just-loaded name top;
+    loaded-once-at-a = loaded-once-at-a;
+    loaded-once-at-b = loaded-once-at-b;
   }

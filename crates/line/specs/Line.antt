@@ -97,17 +97,18 @@ pub record In-64-bits (q : Request) : Type 0 where
 
 -- the two are loaded for each other with one key or pair under one name
 module _ (name : Text) (top : Top) where
-  -- what is asked of a call, where `other` is the other card and `wrote` what that card has written:
-  -- a message naming the other card as originator was written by it; the other card is not removed, and is loaded with
-  -- that key under that name (loaded again it is refused). Of every other call nothing is asked
-  unfoldable pub Allowed : Text → List Text → Call → Type 0
-  Allowed other wrote (receive room text) = (r : Reading) → read text ≡ some r → r .org ≡ other → text ∈ wrote
-  Allowed other wrote (build-ksm room to q) = In-64-bits q
-  Allowed other wrote (build-rsi room to s) = Unit {0}
-  Allowed other wrote (give-up to) = Unit {0}
-  Allowed other wrote (load to key-name key) = to ≡ other → (key-name ≡ name) × (key ≡ top)
-  Allowed other wrote (remove to) = to ≢ other
-  Allowed other wrote (ask to) = Unit {0}
+  -- what is asked of a call that is answered so; `other` is the other card, `wrote` what that card has written
+  unfoldable pub Allowed : Text → List Text → Call → ℕ → Type 0
+  -- a message naming the other card as originator was written by it
+  Allowed other wrote (receive room text) answer = (r : Reading) → read text ≡ some r → r .org ≡ other → text ∈ wrote
+  Allowed other wrote (build-ksm room to q) answer = In-64-bits q
+  Allowed other wrote (build-rsi room to s) answer = Unit {0}
+  Allowed other wrote (give-up to) answer = Unit {0}
+  -- a load of the other card is refused, or has that key under that name
+  Allowed other wrote (load to key-name key) answer = answer ≡ 0 → to ≡ other → (key-name ≡ name) × (key ≡ top)
+  -- a remove does not find the other card
+  Allowed other wrote (remove to) answer = answer ≡ 0 → to ≢ other
+  Allowed other wrote (ask to) answer = Unit {0}
 
   -- the entry that loading makes
   abbrev pub entry-for : Text → Entry
@@ -124,8 +125,10 @@ module _ (a b name : Text) (top : Top) where
   -- outside the calls
   pub data Reach (s₀ : State) : State → Type 0 where
     begin : Reach s₀ s₀
-    step-a : {s : State} → Reach s₀ s → (c : Call) → Allowed name top b (s .from-b) c → Reach s₀ (at-a s c)
-    step-b : {s : State} → Reach s₀ s → (c : Call) → Allowed name top a (s .from-a) c → Reach s₀ (at-b a s c)
+    step-a : {s : State} → Reach s₀ s → (c : Call)
+        → Allowed name top b (s .from-b) c (run (s .a) c .outcome .answer) → Reach s₀ (at-a s c)
+    step-b : {s : State} → Reach s₀ s → (c : Call)
+        → Allowed name top a (s .from-a) c (run (s .b) c .outcome .answer) → Reach s₀ (at-b a s c)
 
   -- ---- the beginning
 
@@ -195,7 +198,7 @@ module _ (a b name : Text) (top : Top) where
         → (for-b : Entry) → entry-of b (s .a) ≡ some for-b → for-b .phase ≡ confirmed → Agreed s for-b
     -- the counts of the key messages that B accepts from A strictly rise
     pub rise : {s₀ s : State} → Afresh s₀ → Reach s₀ s → Rising (s .accepted)
-    -- an old ESM that arrives after a resend never leaves A confirmed with keys that B does not hold
+    -- `agreement` on one kind of run: an old ESM after a resend never leaves A confirmed with keys that B does not hold
     pub late-error-is-harmless : {s₀ s : State} → Afresh s₀ → Late-error s₀ s → Distinct (s .from-a)
         → (for-b : Entry) → entry-of b (s .a) ≡ some for-b → for-b .phase ≡ confirmed → Agreed s for-b
     -- a card that was started is fresh, and so is one that was just loaded for the other
@@ -203,3 +206,8 @@ module _ (a b name : Text) (top : Top) where
     pub just-loaded : (own other : Text) (t : Table) → bare (t .own) ≡ own
         → run t (load other name top) .outcome .answer ≡ 0
         → Fresh name top own other (run t (load other name top) .table)
+    -- a card that begins with the other loaded refuses every load of it: there nothing is asked of loads
+    pub loaded-once-at-a : {s₀ s : State} → Reach s₀ s → (for-b : Entry) → entry-of b (s₀ .a) ≡ some for-b
+        → (key-name : Text) (key : Top) → run (s .a) (load b key-name key) .outcome .answer ≢ 0
+    pub loaded-once-at-b : {s₀ s : State} → Reach s₀ s → (for-a : Entry) → entry-of a (s₀ .b) ≡ some for-a
+        → (key-name : Text) (key : Top) → run (s .b) (load a key-name key) .outcome .answer ≢ 0
