@@ -24,10 +24,10 @@ line:
 	@bash host/build && echo 'built: target/host/line (--help tells all)'
 
 lister:
-	@rt check lister >&2 && target/bin/lister
+	@bash host/start lister
 
 rehearsal:
-	@rt check rehearsal >&2 && target/bin/rehearsal
+	@bash host/start rehearsal
 
 fuzz:
 	@bash tests/second/run fuzz
