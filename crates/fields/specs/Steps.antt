@@ -1,4 +1,4 @@
--- What the private functions answer on the way: no public contract cites it.
+-- What functions answer on the way: of this, public contracts cite `alone`.
 use mathlib.Core.Bool.{cond}
 use mathlib.Core.List.{List, [], _∷_}
 use mathlib.Core.Option.{Option, none, some}
