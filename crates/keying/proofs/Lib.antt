@@ -3,3 +3,4 @@ pub mod Tests
 pub mod Calendar
 pub mod Laws
 pub mod Numbers
+pub mod Examples

@@ -4,4 +4,5 @@ pub mod Mac
 pub mod Iv
 pub mod Date
 pub mod Numbers
+pub mod Examples
 pub mod Claims
