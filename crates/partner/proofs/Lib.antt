@@ -6,4 +6,5 @@ pub mod Fielding
 pub mod Joining
 pub mod Holding
 pub mod Determined
+pub mod Examples
 pub mod Claims

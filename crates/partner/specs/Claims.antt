@@ -11,13 +11,82 @@ use Rattle.partner.specs.declared.Name.{Name}
 use Rattle.partner.specs.declared.DataKey.{DataKey}
 use Rattle.partner.specs.declared.KeySet.{KeySet}
 use Rattle.partner.specs.declared.Entry.{Entry}
-use Rattle.partner.specs.Entry.{blanks, filled, limit, risen, waiting, one-key, two-keys}
+use Rattle.partner.specs.Entry.{blanks, filled, limit, risen, waiting, no-keys, one-key, two-keys, top-of}
 use Rattle.partner.specs.Legal.{is-filled, is-named, keys-formed, legal}
 use Rattle.partner.specs.Changes.{loaded, accepted, issued, settled, given-up, failed}
 use Rattle.partner.specs.Record.{entry-bytes, entry-in}
 use Rattle.partner.specs.Held.{Held}
 
+-- ---- what each change makes of an entry, field by field
+
+-- identity, key name and top key, which no step changes
+pub record Same-partner (e f : Entry) : Type 0 where
+  pub identity : f .identity ≡ e .identity
+  pub name : f .name ≡ e .name
+  pub form : f .form ≡ e .form
+  pub left : f .left ≡ e .left
+  pub right : f .right ≡ e .right
+
+-- the receiving side as it was; the sending side as it was
+pub record Same-receiving (e f : Entry) : Type 0 where
+  pub partner : Same-partner e f
+  pub expected : f .expected ≡ e .expected
+  pub incoming : f .incoming ≡ e .incoming
+
+pub record Same-sending (e f : Entry) : Type 0 where
+  pub partner : Same-partner e f
+  pub next : f .next ≡ e .next
+  pub phase : f .phase ≡ e .phase
+  pub outgoing : f .outgoing ≡ e .outgoing
+
+-- loading sets both counts to 1, phase 0, no data keys
+pub record Loads (id key-name : Name) (key : Top) (f : Entry) : Type 0 where
+  pub identity : f .identity ≡ id
+  pub name : f .name ≡ key-name
+  pub top : top-of f ≡ key
+  pub next : f .next ≡ 1
+  pub expected : f .expected ≡ 1
+  pub phase : f .phase ≡ 0
+  pub outgoing : f .outgoing ≡ no-keys
+  pub incoming : f .incoming ≡ no-keys
+
+-- the keys and names replace the incoming ones, expected becomes count + 1
+pub record Accepts (e : Entry) (count : ℕ) (keys : KeySet) (f : Entry) : Type 0 where
+  pub expected : f .expected ≡ count + 1
+  pub incoming : f .incoming ≡ keys
+  pub sending : Same-sending e f
+
+-- the next send count rises by one, outgoing keys set, phase 1
+pub record Issues (e : Entry) (keys : KeySet) (f : Entry) : Type 0 where
+  pub next : f .next ≡ e .next + 1
+  pub phase : f .phase ≡ 1
+  pub outgoing : f .outgoing ≡ keys
+  pub receiving : Same-receiving e f
+
+-- phase 2
+pub record Settles (e f : Entry) : Type 0 where
+  pub next : f .next ≡ e .next
+  pub phase : f .phase ≡ 2
+  pub outgoing : f .outgoing ≡ e .outgoing
+  pub receiving : Same-receiving e f
+
+-- phase 3, outgoing keys wiped, and that next send count
+pub record Breaks (e : Entry) (next-send : ℕ) (f : Entry) : Type 0 where
+  pub next : f .next ≡ next-send
+  pub phase : f .phase ≡ 3
+  pub outgoing : f .outgoing ≡ no-keys
+  pub receiving : Same-receiving e f
+
 pub record Claims : Type 0 where
+  pub loaded-so : (identity name : Name) (top : Top) → Loads identity name top (loaded identity name top)
+  pub accepted-so : (e : Entry) (count : ℕ) (keys : KeySet) → count < 99_999_999
+      → Accepts e count keys (accepted e count keys)
+  pub issued-so : (e : Entry) (keys : KeySet) → e .next < 99_999_999 → Issues e keys (issued e keys)
+  pub settled-so : (e : Entry) → Settles e (settled e)
+  pub given-up-so : (e : Entry) → Breaks e (e .next) (given-up e)
+  -- next send becomes the larger of itself and x
+  pub failed-below : (e : Entry) (x : ℕ) → x ≤ e .next → Breaks e (e .next) (failed e x)
+  pub failed-above : (e : Entry) (x : ℕ) → e .next ≤ x → Breaks e x (failed e x)
   -- a change leaves a legal entry
   pub loaded-is-legal : (identity name : Name) (top : Top) → is-filled (identity .bytes) ≡ true
       → is-filled (name .bytes) ≡ true → odd-top top ≡ true → legal (loaded identity name top) ≡ true

@@ -3,4 +3,5 @@ pub mod Legal
 pub mod Changes
 pub mod Record
 pub mod Held
+pub mod Examples
 pub mod Claims
