@@ -18,6 +18,7 @@ use Rattle.image.proofs.Images.{decode-encode, image-size, held-slots}
 use Rattle.image.proofs.Updates.{find-place, place-within, put-back, put-size, take-away, take-size}
 use Rattle.image.proofs.Updates.{free-so, free-within, add-on, add-size}
 use Rattle.image.proofs.Edits.{identities-vacant}
+use Rattle.image.proofs.Full.{full, full-read, full-length, bare-read, bare-length}
 
 sizes : (s : Text) (t : Table) → Decoded s t → (81 ≤ length s) × (length s ≤ 10_065)
 sizes s t d =
@@ -58,6 +59,8 @@ claims = record {
   read-then-write = λ s t h. (decoded s t h .is-legal, sym (decoded s t h .text));
   read-is-held = held-slots;
   image-sizes = λ s t h. sizes s t (decoded s t h);
+  largest-image = (encode (full 64), (full 64, (full-read, full-length)));
+  smallest-image = (encode (full 0), (full 0, (bare-read, bare-length)));
   start-is-legal = start-legal;
   entry-found = λ s t id h f. find-place s t (decoded s t h) id (is-filled-real id f);
   entry-within = λ s t id at h p. place-within s t (decoded s t h) id at p;

@@ -10,4 +10,6 @@ pub mod Passes
 pub mod Legality
 pub mod Updates
 pub mod Buffers
+pub mod Examples
+pub mod Full
 pub mod Claims

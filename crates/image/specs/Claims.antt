@@ -24,6 +24,9 @@ pub record Claims : Type 0 where
   pub read-is-held : (s : Text) (t : Table) → all-octets s ≡ true → decode s ≡ some t → AllHeld (t .slots)
   -- largest image: 10,065 bytes; 64 empty slots: 81
   pub image-sizes : (s : Text) (t : Table) → decode s ≡ some t → (81 ≤ length s) × (length s ≤ 10_065)
+  -- and there is an image of each of the two
+  pub largest-image : (s : Text) × ((t : Table) × ((decode s ≡ some t) × (length s ≡ 10_065)))
+  pub smallest-image : (s : Text) × ((t : Table) × ((decode s ≡ some t) × (length s ≡ 81)))
   pub start-is-legal : (own : Name) → partner.is-filled (own .bytes) ≡ true
       → decode (encode (started own)) ≡ some (started own)
   -- a partner's record is found exactly where the table has the partner, lies whole in the image and reads as its entry
