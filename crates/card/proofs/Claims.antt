@@ -16,15 +16,16 @@ use Rattle.partner.specs.Entry.{name-of}
 use Rattle.partner.proofs.Naming.{filled-filled}
 use Rattle.image.specs.Table.{Table, place}
 use Rattle.image.specs.Image.{decode, encode, found}
+use Rattle.image.proofs.Images.{table-there}
 use Rattle.image.proofs.Claims as stored
 use Rattle.calls.specs.Outcome.{Outcome, nothing, refusal, success}
 use Rattle.calls.specs.Calls as calls
 use Rattle.calls.specs.Calls.{Call, load, remove, After, entry-of, turned, at-partner, placed, loading}
-use Rattle.calls.specs.Calls.{emptied, told, perform, run}
+use Rattle.calls.specs.Calls.{emptied, perform, run}
 use Rattle.calls.proofs.Tests.{by-case}
 use Rattle.calls.proofs.Claims as call
 use Rattle.card.specs.Over.{outcome-over, image-over}
-use Rattle.card.specs.Whole.{showing, ask-over, start-over, delivering, top-in, load-with, load-over}
+use Rattle.card.specs.Whole.{body-of, ask-over, start-over, delivering, top-in, load-with, load-over}
 use Rattle.card.specs.Whole.{remove-over}
 use Rattle.card.specs.Claims.{Of-64-bits, Done-or-refused, New-image, Claims}
 use Rattle.card.proofs.Steps.{top-fits}
@@ -94,16 +95,14 @@ unfolding delivering
 deliver-so a h = by-case Done-or-refused _ _ _ (λ _. done-so _) (λ _. h)
 
 ask-so : (image : Text) (room : ℕ) (id : Text) → Done-or-refused (ask-over image room id)
-unfolding ask-over run perform at-partner
+unfolding ask-over
 ask-so image room id =
     by-table image Done-or-refused _ (refused-so _ (omega arith)) λ t d.
-    by-case Done-or-refused _ _ _ (λ _. refused-so _ (omega arith)) λ _.
-    by-case (λ (a : After). Done-or-refused (showing (a .outcome))) _ _ _ (λ _. go t (entry-of id t))
-    (λ _. refused-so _ (omega arith))
+    by-case Done-or-refused _ _ _ (λ _. refused-so _ (omega arith)) (λ _. go (entry-of id t))
   where
-    go : (t : Table) (o : Option Entry) → Done-or-refused (showing (turned t id told o .outcome))
-    go t none = refused-so _ (omega arith)
-    go t (some e) = done-so _
+    go : (o : Option Entry) → Done-or-refused (body-of o)
+    go none = refused-so _ (omega arith)
+    go (some e) = done-so _
 
 start-so : (own : Text) (room : ℕ) → Done-or-refused (start-over own room)
 unfolding start-over
@@ -217,4 +216,17 @@ claims = record {
   started-image = start-new;
   loaded-image = load-new;
   removed-image = remove-new;
+  kept-in-place = λ room id text q. (tt, (tt, (tt, (tt, tt))));
+  load-adds = λ id name top h. h;
+  remove-takes-out = λ id h. h;
+  without-numbers = λ room id text. (tt, (tt, (tt, (tt, tt))));
+  request-of-64-bits = λ room id q a b c. record { first = a; second = b; iv = c };
+  single-of-64-bits = λ id name key h. (h, omega arith);
+  pair-of-64-bits = λ id name left right h k. (h, k);
+  fourteen-is-no-answer = λ h. omega (arith, h .answer);
+  letters-are-not-bare = λ h. omega (arith, ap (λ (o : Outcome). o .letters) (h .bare (λ e. omega arith)));
+  reply-is-not-bare = λ h. omega (arith, ap (λ (o : Outcome). length (o .reply)) (h .bare (λ e. omega arith)));
+  no-byte-is-no-image = λ h.
+      let p = table-there [] (h refl) in
+      omega (arith, stored.claims .image-sizes [] (p .0) (p .1) .0);
 }

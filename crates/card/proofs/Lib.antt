@@ -5,5 +5,6 @@ pub mod Calling
 pub mod Showing
 pub mod Loading
 pub mod Staying
+pub mod Orders
 pub mod Claims
 pub mod Determined

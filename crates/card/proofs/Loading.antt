@@ -165,7 +165,7 @@ module _ (image : Text) (room : ℕ) (id name key : Text) where
               load-odd ∙ ap delivering (if-true (not (odd-top top)) _ _ (ap not h)) ∙ undelivered _ 11 refl
 
           module _ (oddly : odd-top top ≡ true) where
-            load-placed : (o : Option (List Entry))
+            pub load-placed : (o : Option (List Entry))
                 → place (loaded (name-of id) (name-of name) top) (table-there image there .0 .slots) ≡ o
                 → load-over image room id name key ≡ delivering (placed (table-there image there .0) o)
             load-placed o q =

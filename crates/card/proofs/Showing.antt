@@ -3,7 +3,7 @@ use mathlib.Core.Path.{_≡_, sym, ap, _∙_}
 use mathlib.Core.Bool.{true, false}
 use mathlib.Core.List.{_++_}
 use mathlib.Core.Option.{Option, none, some}
-use Prim.Native.Nat.{ℕ, _+_, _<_, _≤_}
+use Prim.Native.Nat.{ℕ, _<_, _≤_}
 use native.Mathlib.Omega.{arith}
 use lib.Dec.{ltb}
 use lib.ListN.{length, drop}
@@ -26,11 +26,11 @@ use Rattle.image.proofs.Claims.{claims}
 use Rattle.calls.specs.Words.{if_then_else_}
 use Rattle.calls.specs.Outcome.{Outcome, nothing, refusal, success}
 use Rattle.calls.specs.Calls as calls
-use Rattle.calls.specs.Calls.{After, turned, at-partner, told, emptied, perform, run}
+use Rattle.calls.specs.Calls.{turned, at-partner, emptied, perform, run}
 use Rattle.calls.proofs.Tests.{if-true, if-false}
 use Rattle.outcome.specs.declared.Report.{Report}
 use Rattle.outcome.specs.Report.{report, replied}
-use Rattle.card.specs.Whole.{showing, ask-over, largest, start-over, delivering, remove-over}
+use Rattle.card.specs.Whole.{body-of, ask-over, largest, start-over, delivering, remove-over}
 use Rattle.card.specs.Ways.{record-of, length-report}
 use Rattle.card.proofs.Steps.{record-place}
 use Rattle.card.proofs.Turning.{lawful-table, entry-is}
@@ -80,16 +80,12 @@ module _ (image : Text) (room : ℕ) (id : Text) where
         rw (ask-over, p .1) (if-true (ltb room 256) _ _ (lt-ltb room 256 h))
 
     ask-told : 256 ≤ room → (o : Option ℕ) → record-of id image ≡ o
-        → ask-over image room id ≡ showing (turned (table-there image there .0) id told (entry-there image o) .outcome)
-    unfolding ask-over run perform at-partner
+        → ask-over image room id ≡ body-of (entry-there image o)
+    unfolding ask-over
     ask-told h o q =
         let p = table-there image there in
-        let t = p .0 in
-        let l = lawful-table image t (p .1) in
-        let r : run t (calls.ask id) ≡ turned t id told (entry-there image o) =
-        if-true (legal t) _ _ l ∙ ap (turned t id told) (entry-is image t (p .1) id ∙ ap (entry-there image) q) in
         rw (ask-over, p .1) (if-false (ltb room 256) _ _ (le-ltb room 256 h)
-        ∙ ap (λ (a : After). showing (a .outcome)) r)
+        ∙ ap body-of (entry-is image (p .0) (p .1) id ∙ ap (entry-there image) q))
 
     pub ask-nobody : 256 ≤ room → record-of id image ≡ none → ask-over image room id ≡ refusal 3
     ask-nobody h q = ask-told h none q

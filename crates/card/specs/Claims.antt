@@ -1,15 +1,19 @@
 -- What is claimed of every call over the stored image; proved as `claims` in proofs/Claims.antt.
 use mathlib.Core.Path.{_≡_}
 use mathlib.Core.Bool.{true}
+use mathlib.Core.List.{[], _∷_}
 use mathlib.Core.Option.{some}
 use Prim.Native.Nat.{ℕ, _^_, _<_, _≤_}
 use lib.ListN.{length}
 use Rattle.octets.specs.Text.{Text}
 use Rattle.octets.specs.Part.{all-octets}
+use Rattle.keying.specs.declared.Top.{Top}
+use Rattle.keying.specs.declared.Top.the-variants.{Single, Pair}
 use Rattle.partner.specs.Changes.{left-of, right-of}
 use Rattle.image.specs.Table.{Table}
 use Rattle.image.specs.Image.{decode, found}
-use Rattle.calls.specs.Outcome.{Outcome, refusal}
+use Rattle.calls.specs.declared.Request.{Request}
+use Rattle.calls.specs.Outcome.{Outcome, nothing, refusal, complaint, success}
 use Rattle.calls.specs.Calls.{Call, receive, build-ksm, build-rsi, give-up, load, remove, ask, run}
 use Rattle.calls.specs.Claims.{Sized}
 use Rattle.outcome.specs.Report.{replied}
@@ -76,3 +80,21 @@ pub record Claims : Type 0 where
       → all-octets key ≡ true → New-image (load-over image room id name key)
   pub removed-image : (image : Text) (room : ℕ) (id : Text) → all-octets image ≡ true
       → New-image (remove-over image room id)
+  -- the words above: which calls are in place, of which numbers 64 bits are asked, what no refusal and no image is
+  pub kept-in-place : (room : ℕ) (id text : Text) (q : Request)
+      → In-place (receive room text) × (In-place (build-ksm room id q) × (In-place (build-rsi room id text)
+      × (In-place (give-up id) × In-place (ask id))))
+  pub load-adds : (id name : Text) (top : Top) → In-place (load id name top) → ⊥
+  pub remove-takes-out : (id : Text) → In-place (remove id) → ⊥
+  pub without-numbers : (room : ℕ) (id text : Text)
+      → Of-64-bits (receive room text) × (Of-64-bits (build-rsi room id text) × (Of-64-bits (give-up id)
+      × (Of-64-bits (remove id) × Of-64-bits (ask id))))
+  pub request-of-64-bits : (room : ℕ) (id : Text) (q : Request)
+      → q .first .key < 2 ^ 64 → q .second .key < 2 ^ 64 → q .iv < 2 ^ 64 → Of-64-bits (build-ksm room id q)
+  pub single-of-64-bits : (id name : Text) (key : ℕ) → key < 2 ^ 64 → Of-64-bits (load id name (Single key))
+  pub pair-of-64-bits : (id name : Text) (left right : ℕ) → left < 2 ^ 64 → right < 2 ^ 64
+      → Of-64-bits (load id name (Pair left right))
+  pub fourteen-is-no-answer : Done-or-refused (refusal 14) → ⊥
+  pub letters-are-not-bare : Done-or-refused (complaint 1 []) → ⊥
+  pub reply-is-not-bare : Done-or-refused (record { answer = 6; letters = 0; reply = 0 ∷ []; told = nothing }) → ⊥
+  pub no-byte-is-no-image : New-image (success [] nothing) → ⊥

@@ -1,6 +1,5 @@
 -- The calls that show an entry or write a whole image to a lent buffer: what they write stands as the reply of their
 -- outcome (document 01, "Answers" and "Stored image").
-use mathlib.Core.List.{[]}
 use mathlib.Core.Option.{Option, none, some}
 use Prim.Native.Nat.{ℕ}
 use lib.Dec.{eqb, ltb}
@@ -9,34 +8,27 @@ use Rattle.octets.specs.Text.{Text}
 use Rattle.octets.specs.Number.{number}
 use Rattle.keying.specs.declared.Top.{Top}
 use Rattle.keying.specs.declared.Top.the-variants.{Single, Pair}
+use Rattle.partner.specs.declared.Entry.{Entry}
 use Rattle.partner.specs.Record.{entry-bytes}
 use Rattle.image.specs.Table.{Table}
 use Rattle.image.specs.Image.{decode, encode}
 use Rattle.calls.specs.Words.{if_then_else_}
-use Rattle.calls.specs.Outcome.{Outcome, Told, nothing, service, keys, confirmation, failure, shown, refusal, success}
-use Rattle.calls.specs.Calls.{After, load, remove, ask, bad-identity, run, start}
+use Rattle.calls.specs.Outcome.{Outcome, nothing, refusal, success}
+use Rattle.calls.specs.Calls.{After, load, remove, entry-of, bad-identity, run, start}
 
 -- ---- ask for an entry
 
--- an entry that is asked for is the body of its record
-abbrev pub body-of : Told → Text
-body-of nothing = []
-body-of (service s) = []
-body-of (keys iv edk) = []
-body-of confirmation = []
-body-of (failure letters) = []
-body-of (shown e) = entry-bytes e
+-- 3, or the body of the entry's record
+abbrev pub body-of : Option Entry → Outcome
+body-of none = refusal 3
+body-of (some e) = success (entry-bytes e) nothing
 
--- it stands as the reply
-abbrev pub showing : Outcome → Outcome
-showing o = record { answer = o .answer; letters = o .letters; reply = body-of (o .told); told = nothing }
-
--- 13, 6, 3; then that body
+-- 13, 6, then these
 unfoldable pub ask-over : Text → ℕ → Text → Outcome
 ask-over image room id =
     elim (decode image) [
       | none ↦ refusal 13
-      | some t ↦ if ltb room 256 then refusal 6 else showing (run t (ask id) .outcome)
+      | some t ↦ if ltb room 256 then refusal 6 else body-of (entry-of id t)
     ]
 
 -- ---- whole images

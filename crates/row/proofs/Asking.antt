@@ -5,26 +5,25 @@ use mathlib.Core.List.{List}
 use mathlib.Core.Option.{Option, none, some}
 use Rattle.octets.specs.Text.{Text, is-name}
 use Rattle.partner.specs.declared.Entry.{Entry}
-use Rattle.partner.specs.Entry.{filled}
+use Rattle.partner.specs.Entry.{empty, filled}
 use Rattle.image.specs.Table.{legal, find}
 use Rattle.calls.specs.Words.{if_then_else_}
-use Rattle.calls.specs.Calls as every
-use Rattle.calls.specs.Calls.{After, refuse}
+use Rattle.calls.specs.Calls.{entry-of}
 use Rattle.calls.proofs.Tests.{if-true, if-false}
 use Rattle.sight.specs.declared.aims.Aim.{Aim}
 use Rattle.sight.specs.declared.Sight.{Sight}
 use Rattle.sight.specs.Aim.{at-partner}
-use Rattle.sight.specs.Table.{table}
-use Rattle.sight.specs.Sight.{survey, shown}
+use Rattle.sight.specs.Table.{table, row-legal}
+use Rattle.sight.specs.Sight.{survey, shown-at, shown}
 use Rattle.sight.proofs.Rows.{survey-legal, survey-found, survey-missed}
 use Rattle.sight.proofs.Finding.{first-named, first-unnamed}
 use Rattle.sight.proofs.Showing.{shown-13, shown-3, shown-0}
-use Rattle.row.specs.Calls.{over, shown-of, asked}
+use Rattle.row.specs.Calls.{shown-of, asked}
 
 -- an entry asked for
 pub asked-is : (own : Text) (slots : List Entry) (id : Text) → shown (survey (at-partner own id) slots) ≡ asked own slots id
-unfolding asked over every.run every.perform every.at-partner
-asked-is own slots id = by-own (is-name own) refl
+unfolding asked row-legal
+asked-is own slots id = by-table (is-name own && legal (table own slots)) refl
   where
     a : Aim
     a = at-partner own id
@@ -35,36 +34,22 @@ asked-is own slots id = by-own (is-name own) refl
     seen : s .legal ≡ is-name own && legal (table own slots)
     seen = survey-legal a own slots refl refl
 
-    by-entry : s .legal ≡ true → is-name id ≡ true → (o : Option Entry) → find (filled id) slots ≡ o
-        → shown s ≡ shown-of (every.turned (table own slots) id every.told o .outcome)
+    by-entry : s .legal ≡ true → is-name id ≡ true → (o : Option Entry) → find (filled id) slots ≡ o → shown s ≡ shown-of o
     by-entry l n none h =
         shown-3 s l (survey-missed a slots (first-named own id slots n ∙ h) .0)
     by-entry l n (some e) h =
         let k = survey-found a slots e (first-named own id slots n ∙ h) in
         shown-0 s e l (k .there) (k .entry)
 
-    by-name : s .legal ≡ true → (b : Bool) → is-name id ≡ b
-        → shown s ≡ shown-of (every.turned (table own slots) id every.told (every.entry-of id (table own slots)) .outcome)
+    by-name : s .legal ≡ true → (b : Bool) → is-name id ≡ b → shown s ≡ shown-of (entry-of id (table own slots))
     by-name l true n =
-        by-entry l n (find (filled id) slots) refl
-        ∙ ap (λ (o : Option Entry). shown-of (every.turned (table own slots) id every.told o .outcome)) (sym (if-true (is-name id) _ _ n))
+        by-entry l n (find (filled id) slots) refl ∙ ap shown-of (sym (if-true (is-name id) _ _ n))
     by-name l false n =
         shown-3 s l (survey-missed a slots (first-unnamed own id slots n) .0)
-        ∙ ap (λ (o : Option Entry). shown-of (every.turned (table own slots) id every.told o .outcome)) (sym (if-false (is-name id) _ _ n))
+        ∙ ap shown-of (sym (if-false (is-name id) _ _ n))
 
-    by-table : is-name own ≡ true → (b : Bool) → legal (table own slots) ≡ b
-        → shown s ≡ shown-of ((if legal (table own slots) then every.perform (table own slots) (every.ask id) else refuse (table own slots) 13) .outcome)
-    by-table n true l =
-        by-name (seen ∙ rw (n, l)) (is-name id) refl
-        ∙ ap (λ (w : After). shown-of (w .outcome)) (sym (if-true (legal (table own slots)) _ _ l))
-    by-table n false l =
-        shown-13 s (seen ∙ rw (n, l))
-        ∙ ap (λ (w : After). shown-of (w .outcome)) (sym (if-false (legal (table own slots)) _ _ l))
-
-    by-own : (b : Bool) → is-name own ≡ b
-        → shown s ≡ shown-of ((if is-name own then every.run (table own slots) (every.ask id) else refuse (table own slots) 13) .outcome)
-    by-own true n =
-        by-table n (legal (table own slots)) refl
-        ∙ ap (λ (w : After). shown-of (w .outcome)) (sym (if-true (is-name own) _ _ n))
-    by-own false n =
-        shown-13 s (seen ∙ rw n) ∙ ap (λ (w : After). shown-of (w .outcome)) (sym (if-false (is-name own) _ _ n))
+    by-table : (b : Bool) → is-name own && legal (table own slots) ≡ b
+        → shown s
+        ≡ (if is-name own && legal (table own slots) then shown-of (entry-of id (table own slots)) else shown-at 13 empty)
+    by-table true l = by-name (seen ∙ l) (is-name id) refl ∙ sym (if-true _ _ _ l)
+    by-table false l = shown-13 s (seen ∙ l) ∙ sym (if-false _ _ _ l)

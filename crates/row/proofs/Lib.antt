@@ -10,5 +10,6 @@ pub mod Filling
 pub mod Starting
 pub mod Laying
 pub mod Writing
+pub mod Orders
 pub mod Claims
 pub mod Determined

@@ -12,7 +12,7 @@ use Rattle.partner.specs.Entry.{empty}
 use Rattle.image.specs.Table.{Table}
 use Rattle.image.specs.Image.{encode, decode}
 use Rattle.calls.specs.Words.{if_then_else_}
-use Rattle.calls.specs.Outcome.{Outcome, Told, nothing, service, keys, confirmation, failure, shown as showing, refusal, success}
+use Rattle.calls.specs.Outcome.{Outcome, nothing, refusal, success}
 use Rattle.calls.specs.Calls as every
 use Rattle.sight.specs.declared.Found.{Found}
 use Rattle.sight.specs.Table.{table, row-legal}
@@ -22,20 +22,15 @@ unfoldable pub over : Text → List Entry → every.Call → every.After
 over own slots c =
     if is-name own then every.run (table own slots) c else every.refuse (table own slots) 13
 
--- an entry asked for: the answer, and the entry or an empty one
-abbrev pub entry-told : Told → Entry
-entry-told nothing = empty
-entry-told (service s) = empty
-entry-told (keys iv edk) = empty
-entry-told confirmation = empty
-entry-told (failure letters) = empty
-entry-told (showing e) = e
+-- an entry asked for: 3 and an empty one, or 0 and the entry
+abbrev pub shown-of : Option Entry → Found
+shown-of none = record { answer = 3; entry = empty }
+shown-of (some e) = record { answer = 0; entry = e }
 
-abbrev pub shown-of : Outcome → Found
-shown-of o = record { answer = o .answer; entry = entry-told (o .told) }
-
+-- 13, then these
 unfoldable pub asked : Text → List Entry → Text → Found
-asked own slots id = shown-of (over own slots (every.ask id) .outcome)
+asked own slots id =
+    if row-legal own slots then shown-of (every.entry-of id (table own slots)) else record { answer = 13; entry = empty }
 
 -- ---- start and image reading
 

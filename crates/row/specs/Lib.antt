@@ -1,4 +1,5 @@
 pub mod Acts
 pub mod Calls
 pub mod Stored
+pub mod Orders
 pub mod Claims
