@@ -7,7 +7,7 @@ use Rattle.keying.specs.declared.Top.{Top}
 use Rattle.calls.specs.Calls.{Call, receive, build-ksm, build-rsi, give-up, load, remove, ask, run}
 use Rattle.calls.specs.Claims.{Claims, Of-one-entry, subject, Writes}
 use Rattle.calls.proofs.Effects.{run-effect}
-use Rattle.calls.proofs.Laws.{answers, keeps, bares, complains, writes, owns, rows, legals, counts}
+use Rattle.calls.proofs.Laws.{keeps, bares, complains, writes, owns, rows, legals, counts}
 use Rattle.calls.proofs.Decides.{alike}
 use Rattle.calls.proofs.Silence.{silent}
 
@@ -22,7 +22,6 @@ all-but (ask id) = inl tt
 
 pub claims : Claims
 claims = record {
-  answers-are-the-papers = λ t c. answers t (subject c) (Writes (bare (t .own)) c) (run t c) (run-effect t c);
   unless-done-nothing-changes = λ t c. keeps t (subject c) (Writes (bare (t .own)) c) (run t c) (run-effect t c);
   refusals-are-bare = λ t c. bares t (subject c) (Writes (bare (t .own)) c) (run t c) (run-effect t c);
   errors-are-answered = λ t c. complains t (subject c) (Writes (bare (t .own)) c) (run t c) (run-effect t c);

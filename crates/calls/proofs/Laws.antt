@@ -20,8 +20,8 @@ use Rattle.calls.specs.Calls.{After, entry-of}
 use Rattle.image.specs.Table.{holding}
 use Rattle.calls.specs.Claims.{Row, Complains}
 use Rattle.calls.proofs.Tests.{and-join}
-use Rattle.calls.proofs.Turns.{refusing-papers, refusing-not-0, refusing-not-4}
-use Rattle.calls.proofs.Turns.{Does, does-change, does-answer, does-keep, does-bare, does-reply}
+use Rattle.calls.proofs.Turns.{refusing-not-0, refusing-not-4}
+use Rattle.calls.proofs.Turns.{Does, does-change, does-keep, does-bare, does-reply}
 use Rattle.calls.proofs.Turns.{does-complain, change-legal, change-identity, change-counts}
 use Rattle.calls.proofs.Slots.{put-found, row-same, row-put, row-empty, row-length, legal-put}
 use Rattle.calls.proofs.Slots.{legal-full, legal-slot, empty-slot}
@@ -32,12 +32,6 @@ use Rattle.calls.proofs.Tables.{held-legal, turned-after, emptied-after
 use Rattle.calls.proofs.Effects.{Effect, refuses, turns, loads, empties}
 
 module _ (t : Table) (id : Text) (R : Text → Type 0) where
-  pub answers : (a : After) → Effect t id R a → a .outcome .answer ≤ 13
-  answers a (refuses n k) = refusing-papers n k
-  answers a (turns e r l h d) = does-answer r d
-  answers a (loads e m l p i g n r) = omega arith
-  answers a (empties e l h r) = omega arith
-
   pub keeps : (a : After) → Effect t id R a → (a .outcome .answer ≡ 0 → ⊥) → a .table ≡ t
   keeps a (refuses n k) h = refl
   keeps a (turns e r l q d) h =

@@ -25,3 +25,4 @@ pub mod Steps
 pub mod Order
 pub mod Example
 pub mod Judging
+pub mod Orders

@@ -6,8 +6,8 @@ use mathlib.Core.Option.{Option, none, some}
 use Prim.Native.Nat.{ℕ, _+_, _≤_, _<_}
 use native.Mathlib.Nat.{le-max-left}
 use native.Mathlib.Omega.{arith}
-use lib.Dec.{eqb, leb}
-use borrow.Author.Tests.{eqb-true, eqb-false, not-true, not-false, leb-true, ltb-false}
+use lib.Dec.{eqb}
+use borrow.Author.Tests.{eqb-true, eqb-false, not-true, not-false, ltb-false}
 use Rattle.octets.specs.Text.{Text, same, within, is-name}
 use Rattle.octets.specs.Part.{bare}
 use Rattle.csm.specs.Format.{value, maybe-legal}
@@ -74,22 +74,15 @@ change-counts e f (fails x w j l) = (le-max-left (e .next) x, omega arith)
 
 -- ---- what a turn does
 
--- the numbers of refusals
+-- the numbers of refusals: neither done nor an error
 abbrev pub refusing : ℕ → Bool
-refusing n = not (eqb n 0) && not (eqb n 4) && leb n 13
-
-pub refusing-papers : (n : ℕ) → refusing n ≡ true → n ≤ 13
-refusing-papers n k = leb-true n 13 (and-true (not (eqb n 0) && not (eqb n 4)) (leb n 13) k .1)
+refusing n = not (eqb n 0) && not (eqb n 4)
 
 pub refusing-not-0 : (n : ℕ) → refusing n ≡ true → n ≡ 0 → ⊥
-refusing-not-0 n k =
-    let a = and-true (not (eqb n 0) && not (eqb n 4)) (leb n 13) k in
-    eqb-false n 0 (not-true (eqb n 0) (and-true (not (eqb n 0)) (not (eqb n 4)) (a .0) .0))
+refusing-not-0 n k = eqb-false n 0 (not-true (eqb n 0) (and-true (not (eqb n 0)) (not (eqb n 4)) k .0))
 
 pub refusing-not-4 : (n : ℕ) → refusing n ≡ true → n ≡ 4 → ⊥
-refusing-not-4 n k =
-    let a = and-true (not (eqb n 0) && not (eqb n 4)) (leb n 13) k in
-    eqb-false n 4 (not-true (eqb n 4) (and-true (not (eqb n 0)) (not (eqb n 4)) (a .0) .1))
+refusing-not-4 n k = eqb-false n 4 (not-true (eqb n 4) (and-true (not (eqb n 0)) (not (eqb n 4)) k .1))
 
 pub data Does (us : Text) (e : Entry) (R : Text → Type 0) : Turn → Type 0 where
   refuses : (n : ℕ) → refusing n ≡ true → Does us e R (refused e n)
@@ -243,11 +236,6 @@ module _ {us : Text} {e : Entry} {R : Text → Type 0} where
   does-change t (refuses n k) = stays
   does-change t (complains l c k b) = stays
   does-change t (does f s o c r) = c
-
-  pub does-answer : (t : Turn) → Does us e R t → t .outcome .answer ≤ 13
-  does-answer t (refuses n k) = refusing-papers n k
-  does-answer t (complains l c k b) = omega arith
-  does-answer t (does f s o c r) = omega arith
 
   -- unless it is done, the entry is as it was
   pub does-keep : (t : Turn) → Does us e R t → (t .outcome .answer ≡ 0 → ⊥) → t .entry ≡ e

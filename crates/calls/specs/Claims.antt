@@ -104,8 +104,6 @@ pub record Sized (q : Request) : Type 0 where
   pub iv : q .iv < 2 ^ 64
 
 pub record Claims : Type 0 where
-  -- the answers are the paper's
-  pub answers-are-the-papers : (t : Table) (c : Call) → run t c .outcome .answer ≤ 13
   -- a refusal and an error leave the table as it was
   pub unless-done-nothing-changes : (t : Table) (c : Call)
       → (run t c .outcome .answer ≡ 0 → ⊥) → run t c .table ≡ t

@@ -9,3 +9,4 @@ pub mod Good
 pub mod Results
 pub mod Steps
 pub mod Order
+pub mod Orders

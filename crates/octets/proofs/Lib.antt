@@ -2,3 +2,4 @@ pub mod Comparing
 pub mod Parting
 pub mod Writing
 pub mod Numbers
+pub mod Firsts

@@ -2,3 +2,4 @@ pub mod Text
 pub mod Part
 pub mod Number
 pub mod Wrote
+pub mod First

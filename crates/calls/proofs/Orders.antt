@@ -1,0 +1,258 @@
+-- The claims of specs/Orders.antt, proved: each call is walked beside its order.
+use mathlib.Core.Path.{_≡_, refl, sym, _∙_, subst}
+use mathlib.Core.Bool.{Bool, true, false, not}
+use mathlib.Core.List.{List, [], _∷_}
+use mathlib.Core.Option.{Option, none, some}
+use Prim.Native.Nat.{ℕ}
+use lib.Dec.{eqb, ltb}
+use borrow.Author.Tests.{eqb-true, eqb-false}
+use Rattle.octets.specs.Text.{Text, same, is-name, stands}
+use Rattle.octets.specs.Part.{bare}
+use Rattle.octets.specs.First.{Order, first, Numbered, end, more}
+use Rattle.octets.proofs.Firsts as firsts
+use Rattle.keying.specs.declared.Top.{Top}
+use Rattle.keying.specs.Keys.{odd-top}
+use Rattle.csm.specs.Format.{value}
+use Rattle.csm.specs.Fields.{svr}
+use Rattle.csm.specs.Message.{Body, rsi, ksm, rsm, esm, option, Reading, read, found}
+use Rattle.partner.specs.declared.Entry.{Entry}
+use Rattle.partner.specs.Entry.{limit, name-of}
+use Rattle.partner.specs.Changes.{loaded}
+use Rattle.image.specs.Table.{Table, legal, place}
+use Rattle.calls.specs.declared.Request.{Request}
+use Rattle.calls.specs.Words.{if_then_else_, any}
+use Rattle.calls.specs.Outcome.{Turn}
+use Rattle.calls.specs.Receive as steps
+use Rattle.calls.specs.Receive.{foreign, uneven, kds, brought, faults, bad-mac, is-waiting}
+use Rattle.calls.specs.Build as building
+use Rattle.calls.specs.Build.{used, not-odd, malformed}
+use Rattle.calls.specs.Calls.{Call, receive, build-ksm, build-rsi, give-up, load, remove, ask, After, entry-of}
+use Rattle.calls.specs.Calls.{turned, at-partner, receiving, bad-identity, loading, placed, emptied, told, perform, run}
+use Rattle.calls.specs.Orders.{by-class, of-key-message, of-service, of-giving-up, about, of-text, in-order, order}
+use Rattle.calls.specs.Orders.{answers, Orders}
+
+-- no number here is 0
+not-0 : (n : ℕ) → eqb n 0 ≡ false → n ≡ 0 → ⊥
+not-0 n h = eqb-false n 0 h
+
+-- the answer of a is the first of the order
+record Walks {A : Type 0} (answer : A → ℕ) (a : A) (ts : Order) : Type 0 where
+  is : answer a ≡ first ts
+
+-- a step that asks a test first, beside the order that has it first
+asks : {A : Type 0} {answer : A → ℕ} (b : Bool) (n : ℕ) (x y : A) {ts : Order} → eqb n 0 ≡ false → answer x ≡ n
+    → Walks answer y ts → Walks answer (if b then x else y) ((b, n) ∷ ts)
+unfolding if_then_else_
+asks true n x y {ts = ts} z p q = record { is = p ∙ sym (firsts.holds-first n ts (not-0 n z)) }
+asks false n x y z p q = record { is = q .is }
+
+-- where no test is left
+done : {A : Type 0} {answer : A → ℕ} {a : A} → answer a ≡ 0 → Walks answer a []
+done p = record { is = p }
+
+-- the answer of a turn, and of a call
+abbrev of-turn : Turn → ℕ
+of-turn t = t .outcome .answer
+
+abbrev of-call : After → ℕ
+of-call a = a .outcome .answer
+
+-- ---- of one entry
+
+class-first : (own : Text) (e : Entry) (text : Text) (b : Body) → Walks of-turn (steps.receive own e text b) (by-class e text b)
+unfolding steps.receive steps.receive-ksm steps.judged steps.receive-rsm steps.receive-esm
+class-first own e text (rsi m) = done refl
+class-first own e text (ksm m) =
+    asks (any (foreign e) (kds m)) 4 _ _ refl refl
+    (asks (any (uneven e m) (kds m)) 4 _ _ refl refl
+    (asks (not (eqb (faults e (brought e m) text m) 0)) 4 _ _ refl refl (done refl)))
+class-first own e text (rsm m) =
+    asks (not (is-waiting e)) 5 _ _ refl refl (asks (bad-mac (e .outgoing) text (m .mac)) 4 _ _ refl refl (done refl))
+class-first own e text (esm m) = asks (not (is-waiting e)) 5 _ _ refl refl (done refl)
+class-first own e text (option c w) = record { is = refl }
+
+key-message-first : (own : Text) (e : Entry) (q : Request) → Walks of-turn (building.build-ksm own e q) (of-key-message q e)
+unfolding building.build-ksm
+key-message-first own e q =
+    asks (is-waiting e) 7 _ _ refl refl
+    (asks (eqb (e .next) limit) 8 _ _ refl refl
+    (asks (any not-odd (used q)) 11 _ _ refl refl (asks (malformed q) 12 _ _ refl refl (done refl))))
+
+service-first : (own : Text) (e : Entry) (contents : Text)
+    → Walks of-turn (building.build-rsi own e contents) (of-service contents e)
+unfolding building.build-rsi
+service-first own e contents = go (value svr contents) refl
+  where
+    go : (o : Option ℕ) → value svr contents ≡ o
+        → Walks of-turn (building.build-rsi own e contents) ((not (found (value svr contents)), 12) ∷ [])
+    go none p = record { is = rw (p, building.build-rsi) }
+    go (some s) p = record { is = rw (p, building.build-rsi) }
+
+giving-up-first : (e : Entry) → Walks of-turn (building.give-up e) (of-giving-up e)
+unfolding building.give-up
+giving-up-first e = asks (not (is-waiting e)) 5 _ _ refl refl (done refl)
+
+-- ---- of a call
+
+about-first : (t : Table) (id : Text) (turn : Entry → Turn) (rest : Entry → Order)
+    → ((e : Entry) → Walks of-turn (turn e) (rest e)) → Walks of-call (at-partner t id turn) (about (entry-of id t) rest)
+unfolding at-partner
+about-first t id turn rest h = go (entry-of id t)
+  where
+    go : (o : Option Entry) → Walks of-call (turned t id turn o) (about o rest)
+    go none = record { is = refl }
+    go (some e) = record { is = h e .is }
+
+text-first : (t : Table) (text : Text) (o : Option Reading) → Walks of-call (receiving t text o) (of-text t text o)
+unfolding receiving
+text-first t text none = record { is = refl }
+text-first t text (some r) =
+    asks (not (same (r .rcv) (bare (t .own)))) 2 _ _ refl refl
+    (about-first t (r .org) (λ e. steps.receive (bare (t .own)) e text (r .body)) (λ e. by-class e text (r .body))
+    (λ e. class-first (bare (t .own)) e text (r .body)))
+
+load-first : (t : Table) (id name : Text) (top : Top)
+    → Walks of-call (loading t id name top) (in-order t (load id name top))
+unfolding loading
+load-first t id name top =
+    asks (bad-identity t id) 10 _ _ refl refl
+    (asks (not (is-name name)) 12 _ _ refl refl
+    (asks (not (odd-top top)) 11 _ _ refl refl (go (place (loaded (name-of id) (name-of name) top) (t .slots)))))
+  where
+    go : (o : Option (List Entry)) → Walks of-call (placed t o) ((not (found o), 9) ∷ [])
+    go none = record { is = refl }
+    go (some slots) = record { is = refl }
+
+perform-first : (t : Table) (c : Call) → Walks of-call (perform t c) (in-order t c)
+unfolding perform
+perform-first t (receive room text) = asks (ltb room 256) 6 _ _ refl refl (text-first t text (read text))
+perform-first t (build-ksm room id q) =
+    asks (ltb room 256) 6 _ _ refl refl
+    (about-first t id (λ e. building.build-ksm (bare (t .own)) e q) (of-key-message q)
+    (λ e. key-message-first (bare (t .own)) e q))
+perform-first t (build-rsi room id contents) =
+    asks (ltb room 256) 6 _ _ refl refl
+    (about-first t id (λ e. building.build-rsi (bare (t .own)) e contents) (of-service contents)
+    (λ e. service-first (bare (t .own)) e contents))
+perform-first t (give-up id) = about-first t id building.give-up of-giving-up giving-up-first
+perform-first t (load id name top) = load-first t id name top
+perform-first t (remove id) = about-first t id emptied (λ e. []) (λ e. done refl)
+perform-first t (ask id) = about-first t id told (λ e. []) (λ e. done refl)
+
+is-first : (t : Table) (c : Call) → run t c .outcome .answer ≡ first (order t c)
+unfolding run if_then_else_
+is-first t c = go (legal t) refl
+  where
+    go : (b : Bool) → legal t ≡ b → run t c .outcome .answer ≡ first (order t c)
+    go true p = rw p (perform-first t c .is)
+    go false p = rw p (sym (firsts.holds-first 13 (in-order t c) (not-0 13 refl)))
+
+-- ---- no number of an order is 0
+
+numbered-class : (e : Entry) (text : Text) (b : Body) → Numbered (by-class e text b)
+numbered-class e text (rsi m) = end
+numbered-class e text (ksm m) =
+    more _ 4 _ (not-0 4 refl) (more _ 4 _ (not-0 4 refl) (more _ 4 _ (not-0 4 refl) end))
+numbered-class e text (rsm m) = more _ 5 _ (not-0 5 refl) (more _ 4 _ (not-0 4 refl) end)
+numbered-class e text (esm m) = more _ 5 _ (not-0 5 refl) end
+numbered-class e text (option c w) = more _ 4 _ (not-0 4 refl) end
+
+numbered-about : (o : Option Entry) (rest : Entry → Order) → ((e : Entry) → Numbered (rest e)) → Numbered (about o rest)
+numbered-about none rest h = more _ 3 _ (not-0 3 refl) end
+numbered-about (some e) rest h = h e
+
+numbered-text : (t : Table) (text : Text) (o : Option Reading) → Numbered (of-text t text o)
+numbered-text t text none = more _ 1 _ (not-0 1 refl) end
+numbered-text t text (some r) =
+    more _ 2 _ (not-0 2 refl)
+    (numbered-about (entry-of (r .org) t) (λ e. by-class e text (r .body)) (λ e. numbered-class e text (r .body)))
+
+numbered-in : (t : Table) (c : Call) → Numbered (in-order t c)
+numbered-in t (receive room text) = more _ 6 _ (not-0 6 refl) (numbered-text t text (read text))
+numbered-in t (build-ksm room id q) =
+    more _ 6 _ (not-0 6 refl) (numbered-about (entry-of id t) (of-key-message q) (λ e.
+    more _ 7 _ (not-0 7 refl) (more _ 8 _ (not-0 8 refl) (more _ 11 _ (not-0 11 refl) (more _ 12 _ (not-0 12 refl) end)))))
+numbered-in t (build-rsi room id contents) =
+    more _ 6 _ (not-0 6 refl)
+    (numbered-about (entry-of id t) (of-service contents) (λ e. more _ 12 _ (not-0 12 refl) end))
+numbered-in t (give-up id) = numbered-about (entry-of id t) of-giving-up (λ e. more _ 5 _ (not-0 5 refl) end)
+numbered-in t (load id name top) =
+    more _ 10 _ (not-0 10 refl)
+    (more _ 12 _ (not-0 12 refl) (more _ 11 _ (not-0 11 refl) (more _ 9 _ (not-0 9 refl) end)))
+numbered-in t (remove id) = numbered-about (entry-of id t) (λ e. []) (λ e. end)
+numbered-in t (ask id) = numbered-about (entry-of id t) (λ e. []) (λ e. end)
+
+numbered : (t : Table) (c : Call) → Numbered (order t c)
+numbered t c = more _ 13 _ (not-0 13 refl) (numbered-in t c)
+
+-- ---- each call's own answers
+
+-- every number of the order is in the list
+data Within (l : List ℕ) : Order → Type 0 where
+  nil : Within l []
+  cons : (b : Bool) (n : ℕ) (ts : Order) → stands n l ≡ true → Within l ts → Within l ((b, n) ∷ ts)
+
+-- so what the order gives is 0 or in the list
+within-first : (l : List ℕ) (ts : Order) → stands 0 l ≡ true → Within l ts → stands (first ts) l ≡ true
+within-first l ts z nil = z
+within-first l ts z (cons false n rest i w) = within-first l rest z w
+within-first l ts z (cons true n rest i w) = go (eqb n 0) refl (within-first l rest z w)
+  where
+    go : (b : Bool) → eqb n 0 ≡ b → stands (first rest) l ≡ true → stands (first ((true, n) ∷ rest)) l ≡ true
+    go true p h = subst (λ (k : ℕ). stands (first ((true, k) ∷ rest)) l ≡ true) (sym (eqb-true n 0 p)) h
+    go false p h = subst (λ (k : ℕ). stands k l ≡ true) (sym (firsts.holds-first n rest (not-0 n p))) i
+
+within-class : (l : List ℕ) (e : Entry) (text : Text) (b : Body) → stands 4 l ≡ true → stands 5 l ≡ true
+    → Within l (by-class e text b)
+within-class l e text (rsi m) f s = nil
+within-class l e text (ksm m) f s = cons _ 4 _ f (cons _ 4 _ f (cons _ 4 _ f nil))
+within-class l e text (rsm m) f s = cons _ 5 _ s (cons _ 4 _ f nil)
+within-class l e text (esm m) f s = cons _ 5 _ s nil
+within-class l e text (option c w) f s = cons _ 4 _ f nil
+
+within-about : (l : List ℕ) (o : Option Entry) (rest : Entry → Order) → stands 3 l ≡ true
+    → ((e : Entry) → Within l (rest e)) → Within l (about o rest)
+within-about l none rest i h = cons _ 3 _ i nil
+within-about l (some e) rest i h = h e
+
+within-text : (t : Table) (text : Text) (o : Option Reading) (l : List ℕ) → stands 1 l ≡ true → stands 2 l ≡ true
+    → stands 3 l ≡ true → stands 4 l ≡ true → stands 5 l ≡ true → Within l (of-text t text o)
+within-text t text none l a b c f s = cons _ 1 _ a nil
+within-text t text (some r) l a b c f s =
+    cons _ 2 _ b (within-about l (entry-of (r .org) t) (λ e. by-class e text (r .body)) c
+    (λ e. within-class l e text (r .body) f s))
+
+within-in : (t : Table) (c : Call) → Within (answers c) (in-order t c)
+within-in t (receive room text) = cons _ 6 _ refl (within-text t text (read text) _ refl refl refl refl refl)
+within-in t (build-ksm room id q) =
+    cons _ 6 _ refl (within-about _ (entry-of id t) (of-key-message q) refl
+    (λ e. cons _ 7 _ refl (cons _ 8 _ refl (cons _ 11 _ refl (cons _ 12 _ refl nil)))))
+within-in t (build-rsi room id contents) =
+    cons _ 6 _ refl (within-about _ (entry-of id t) (of-service contents) refl (λ e. cons _ 12 _ refl nil))
+within-in t (give-up id) = within-about _ (entry-of id t) of-giving-up refl (λ e. cons _ 5 _ refl nil)
+within-in t (load id name top) =
+    cons _ 10 _ refl (cons _ 12 _ refl (cons _ 11 _ refl (cons _ 9 _ refl nil)))
+within-in t (remove id) = within-about _ (entry-of id t) (λ e. []) refl (λ e. nil)
+within-in t (ask id) = within-about _ (entry-of id t) (λ e. []) refl (λ e. nil)
+
+has-0 : (c : Call) → (stands 0 (answers c) ≡ true) × (stands 13 (answers c) ≡ true)
+has-0 (receive room text) = (refl, refl)
+has-0 (build-ksm room id q) = (refl, refl)
+has-0 (build-rsi room id contents) = (refl, refl)
+has-0 (give-up id) = (refl, refl)
+has-0 (load id name top) = (refl, refl)
+has-0 (remove id) = (refl, refl)
+has-0 (ask id) = (refl, refl)
+
+papers : (t : Table) (c : Call) → stands (run t c .outcome .answer) (answers c) ≡ true
+papers t c =
+    subst (λ (n : ℕ). stands n (answers c) ≡ true) (sym (is-first t c))
+    (within-first (answers c) (order t c) (has-0 c .0) (cons _ 13 _ (has-0 c .1) (within-in t c)))
+
+pub orders : Orders
+orders = record {
+  answer-is-the-first = is-first;
+  given-exactly = λ t c n p z. firsts.claims .exactly (order t c) n (numbered t c) z .0 (sym (is-first t c) ∙ p);
+  given-where-it-holds = λ t c n z g. is-first t c ∙ firsts.claims .exactly (order t c) n (numbered t c) z .1 g;
+  answers-are-the-papers = papers;
+}

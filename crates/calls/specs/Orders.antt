@@ -1,0 +1,99 @@
+-- Each call's order of answers as data: its tests, each with its number (document 01, "Answers"). The answer is the
+-- number of the first that holds, 0 where none does. Proved as `orders` in proofs/Orders.antt.
+use mathlib.Core.Path.{_≡_}
+use mathlib.Core.Bool.{true, not}
+use mathlib.Core.List.{List, [], _∷_}
+use mathlib.Core.Option.{Option, none, some}
+use Prim.Native.Nat.{ℕ}
+use lib.Dec.{eqb, ltb}
+use Rattle.octets.specs.Text.{Text, same, is-name, stands}
+use Rattle.octets.specs.Part.{bare}
+use Rattle.octets.specs.First.{Order, first, Given}
+use Rattle.keying.specs.Keys.{odd-top}
+use Rattle.csm.specs.Format.{value}
+use Rattle.csm.specs.Fields.{svr}
+use Rattle.csm.specs.Message.{Body, rsi, ksm, rsm, esm, option, Reading, read, found}
+use Rattle.partner.specs.declared.Entry.{Entry}
+use Rattle.partner.specs.Entry.{limit, name-of}
+use Rattle.partner.specs.Changes.{loaded}
+use Rattle.image.specs.Table.{Table, legal, place}
+use Rattle.calls.specs.declared.Request.{Request}
+use Rattle.calls.specs.Words.{any}
+use Rattle.calls.specs.Receive.{foreign, uneven, kds, brought, faults, bad-mac, is-waiting}
+use Rattle.calls.specs.Build.{used, not-odd, malformed}
+use Rattle.calls.specs.Calls.{Call, receive, build-ksm, build-rsi, give-up, load, remove, ask, entry-of, run}
+use Rattle.calls.specs.Calls.{bad-identity}
+
+-- ---- of one entry
+
+-- a KSM: I, K, then F, M and P together; an RSM; an ESM; an option: O
+abbrev pub by-class : Entry → Text → Body → Order
+by-class e text (rsi m) = []
+by-class e text (ksm m) =
+    (any (foreign e) (kds m), 4) ∷ (any (uneven e m) (kds m), 4)
+    ∷ (not (eqb (faults e (brought e m) text m) 0), 4) ∷ []
+by-class e text (rsm m) = (not (is-waiting e), 5) ∷ (bad-mac (e .outgoing) text (m .mac), 4) ∷ []
+by-class e text (esm m) = (not (is-waiting e), 5) ∷ []
+by-class e text (option c w) = (true, 4) ∷ []
+
+-- build a KSM
+abbrev pub of-key-message : Request → Entry → Order
+of-key-message q e =
+    (is-waiting e, 7) ∷ (eqb (e .next) limit, 8) ∷ (any not-odd (used q), 11) ∷ (malformed q, 12) ∷ []
+
+-- build an RSI
+abbrev pub of-service : Text → Entry → Order
+of-service contents e = (not (found (value svr contents)), 12) ∷ []
+
+-- give up
+abbrev pub of-giving-up : Entry → Order
+of-giving-up e = (not (is-waiting e), 5) ∷ []
+
+-- ---- of a call
+
+-- partner not in the table, then its entry's
+abbrev pub about : Option Entry → (Entry → Order) → Order
+about none rest = (true, 3) ∷ []
+about (some e) rest = rest e
+
+-- text not a message of this paper; RCV is not us; then its originator
+abbrev pub of-text : Table → Text → Option Reading → Order
+of-text t text none = (true, 1) ∷ []
+of-text t text (some r) =
+    (not (same (r .rcv) (bare (t .own))), 2) ∷ about (entry-of (r .org) t) (λ e. by-class e text (r .body))
+
+abbrev pub in-order : Table → Call → Order
+in-order t (receive room text) = (ltb room 256, 6) ∷ of-text t text (read text)
+in-order t (build-ksm room id q) = (ltb room 256, 6) ∷ about (entry-of id t) (of-key-message q)
+in-order t (build-rsi room id contents) = (ltb room 256, 6) ∷ about (entry-of id t) (of-service contents)
+in-order t (give-up id) = about (entry-of id t) of-giving-up
+in-order t (load id name top) =
+    (bad-identity t id, 10) ∷ (not (is-name name), 12) ∷ (not (odd-top top), 11)
+    ∷ (not (found (place (loaded (name-of id) (name-of name) top) (t .slots))), 9) ∷ []
+in-order t (remove id) = about (entry-of id t) (λ e. [])
+in-order t (ask id) = about (entry-of id t) (λ e. [])
+
+-- any call that is lent a table tests 13 before all else
+abbrev pub order : Table → Call → Order
+order t c = (not (legal t), 13) ∷ in-order t c
+
+-- each call's own answers
+abbrev pub answers : Call → List ℕ
+answers (receive room text) = 0 ∷ 13 ∷ 6 ∷ 1 ∷ 2 ∷ 3 ∷ 4 ∷ 5 ∷ []
+answers (build-ksm room id q) = 0 ∷ 13 ∷ 6 ∷ 3 ∷ 7 ∷ 8 ∷ 11 ∷ 12 ∷ []
+answers (build-rsi room id contents) = 0 ∷ 13 ∷ 6 ∷ 3 ∷ 12 ∷ []
+answers (give-up id) = 0 ∷ 13 ∷ 3 ∷ 5 ∷ []
+answers (load id name top) = 0 ∷ 13 ∷ 10 ∷ 12 ∷ 11 ∷ 9 ∷ []
+answers (remove id) = 0 ∷ 13 ∷ 3 ∷ []
+answers (ask id) = 0 ∷ 13 ∷ 3 ∷ []
+
+pub record Orders : Type 0 where
+  -- the answer is the number of the first test that holds
+  pub answer-is-the-first : (t : Table) (c : Call) → run t c .outcome .answer ≡ first (order t c)
+  -- so it is given exactly when its condition holds and none earlier in the call's order does
+  pub given-exactly : (t : Table) (c : Call) (n : ℕ) → run t c .outcome .answer ≡ n → (n ≡ 0 → ⊥)
+      → Given (order t c) n
+  pub given-where-it-holds : (t : Table) (c : Call) (n : ℕ) → (n ≡ 0 → ⊥) → Given (order t c) n
+      → run t c .outcome .answer ≡ n
+  -- the answers are the paper's, each call's own
+  pub answers-are-the-papers : (t : Table) (c : Call) → stands (run t c .outcome .answer) (answers c) ≡ true
