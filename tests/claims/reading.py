@@ -14,7 +14,10 @@ from pathlib import Path
 
 CRATES = Path("crates")
 FACES = {"host", "row"}
-THEOREMS = {"Claims", "Numbers", "Line"}
+# modules that state theorems, or are words of such statements alone: by their name in any crate, or in one
+THEOREMS = {"Claims", "Numbers", "Examples", "Orders"}
+THEOREMS |= {f"calls/specs/{name}" for name in ("Good", "Results", "Steps", "Refusals")}
+THEOREMS |= {"octets/specs/First", "line/specs/Line", "line/specs/Worked"}
 PARTS = ["|", "Beneath the calls", "No public contract"]
 
 MODULE = r"Rattle·(\w+)(?:·specs)?\.(specs|proofs)\.([A-Z]\w*)"
@@ -129,7 +132,7 @@ def main():
     files = [*CRATES.glob("*/specs/*.antt"), *CRATES.glob("*/proofs/*.antt")]
     modules = {str(file.relative_to(CRATES).with_suffix("")) for file in files if file.stem != "Lib"}
     specs = {module for module in modules if "/specs/" in module}
-    theorems = {module: "it states theorems" for module in specs if module.split("/")[2] in THEOREMS}
+    theorems = {module: "it states theorems" for module in specs if {module, module.split("/")[2]} & THEOREMS}
     faces, others = roots()
     table = reached(faces) | theorems
     beneath = reached(others | theorems)

@@ -22,7 +22,7 @@ pub mod Stepping
 pub mod Numbers
 pub mod Claims
 pub mod Steps
-pub mod Order
+pub mod Refusals
 pub mod Example
 pub mod Judging
 pub mod Orders

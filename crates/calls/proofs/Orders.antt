@@ -235,7 +235,8 @@ within-in t (load id name top) =
 within-in t (remove id) = within-about _ (entry-of id t) (λ e. []) refl (λ e. nil)
 within-in t (ask id) = within-about _ (entry-of id t) (λ e. []) refl (λ e. nil)
 
-has-0 : (c : Call) → (stands 0 (answers c) ≡ true) × (stands 13 (answers c) ≡ true)
+-- 0 and 13 are every call's
+pub has-0 : (c : Call) → (stands 0 (answers c) ≡ true) × (stands 13 (answers c) ≡ true)
 has-0 (receive room text) = (refl, refl)
 has-0 (build-ksm room id q) = (refl, refl)
 has-0 (build-rsi room id contents) = (refl, refl)

@@ -21,9 +21,10 @@ use Rattle.partner.specs.declared.KeySet.{KeySet}
 use Rattle.partner.specs.declared.Entry.{Entry}
 use Rattle.partner.specs.Entry.{blanks, filled, top-of, keys-in, unused, waiting}
 use Rattle.partner.specs.Legal.{is-filled}
-use Rattle.image.specs.Table.{Table, find}
+use Rattle.image.specs.Table.{Table}
 use Rattle.calls.specs.declared.KeyRequest.{KeyRequest}
 use Rattle.calls.specs.declared.Request.{Request}
+use Rattle.calls.specs.Calls.{entry-of}
 
 -- ---- a KSM
 
@@ -129,4 +130,4 @@ pub record Good-request (e : Entry) (q : Request) : Type 0 where
 pub record Good-identity (t : Table) (id : Text) : Type 0 where
   pub formed : is-name id ≡ true
   pub not-ours : filled id ≡ t .own → ⊥
-  pub not-taken : find (filled id) (t .slots) ≡ none
+  pub not-taken : entry-of id t ≡ none

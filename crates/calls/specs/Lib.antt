@@ -8,5 +8,5 @@ pub mod Claims
 pub mod Good
 pub mod Results
 pub mod Steps
-pub mod Order
+pub mod Refusals
 pub mod Orders

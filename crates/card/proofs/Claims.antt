@@ -8,7 +8,7 @@ use native.Mathlib.Omega.{arith}
 use lib.Dec.{eqb}
 use lib.ListN.{length}
 use borrow.Author.Tests.{eqb-false}
-use Rattle.octets.specs.Text.{Text}
+use Rattle.octets.specs.Text.{Text, stands}
 use Rattle.octets.specs.Part.{all-octets}
 use Rattle.keying.specs.declared.Top.{Top}
 use Rattle.partner.specs.declared.Entry.{Entry}
@@ -24,6 +24,8 @@ use Rattle.calls.specs.Calls.{Call, load, remove, After, entry-of, turned, at-p
 use Rattle.calls.specs.Calls.{emptied, perform, run}
 use Rattle.calls.proofs.Tests.{by-case}
 use Rattle.calls.proofs.Claims as call
+use Rattle.calls.specs.Orders.{answers}
+use Rattle.calls.proofs.Orders.{has-0, orders}
 use Rattle.card.specs.Over.{outcome-over, image-over}
 use Rattle.card.specs.Whole.{body-of, ask-over, start-over, delivering, top-in, load-with, load-over}
 use Rattle.card.specs.Whole.{remove-over}
@@ -200,7 +202,8 @@ remove-new image room id o =
 pub claims : Claims
 claims = record {
   answers-are-the-papers = λ image c.
-      by-image image c (λ o s. o .answer ≤ 13) (omega arith) (λ t d. call.claims .answers-are-the-papers t c);
+      by-image image c (λ o s. stands (o .answer) (answers c) ≡ true) (has-0 c .1)
+      (λ t d. orders .answers-are-the-papers t c);
   unless-done-nothing-changes = λ image c.
       by-image image c (λ o s. (o .answer ≡ 0 → ⊥) → s ≡ image) (λ h. refl)
       (λ t d h. ap encode (call.claims .unless-done-nothing-changes t c h) ∙ encode-is image t d);

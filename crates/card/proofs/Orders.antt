@@ -31,7 +31,8 @@ use Rattle.calls.proofs.Tests.{if-true, if-false}
 use Rattle.card.specs.Over.{outcome-over}
 use Rattle.card.specs.Whole.{delivering, top-in, load-over}
 use Rattle.card.specs.Ways.{record-of, is-new}
-use Rattle.card.specs.Orders.{New-partner, Orders}
+use Rattle.calls.specs.Good.{Good-identity}
+use Rattle.card.specs.Orders.{Orders}
 use Rattle.card.proofs.Steps.{record-place, record-somebody, new-malformed, new-ours, new-free}
 use Rattle.card.proofs.Turning.{lawful-table, own-is, entry-is}
 use Rattle.card.proofs.Showing.{ask-no-image, ask-short, ask-nobody, ask-shown}
@@ -97,7 +98,7 @@ module _ (image : Text) (t : Table) (d : decode image ≡ some t) where
           let r = record-there id e h in
           new-free id image n s ∙ ap (λ (o : Option ℕ). not (found o)) (record-place id image (r .0) (r .1 .0))
 
-  new-so : (id : Text) → New-partner t id → is-new id image ≡ true
+  new-so : (id : Text) → Good-identity t id → is-new id image ≡ true
   new-so id p =
       let s : same (own-in image) (filled id) ≡ false =
       differs-same _ _ (λ e. p .not-ours (sym e ∙ own-is image t d)) in
@@ -161,7 +162,7 @@ module _ (image : Text) (t : Table) (d : decode image ≡ some t) where
       missing (some at) f = absurd (true≢false f)
 
   -- a free one takes the partner
-  load-zero : (room : ℕ) (id name key : Text) (top : Top) → 10_065 ≤ room → New-partner t id → is-name name ≡ true
+  load-zero : (room : ℕ) (id name key : Text) (top : Top) → 10_065 ≤ room → Good-identity t id → is-name name ≡ true
       → top-in key ≡ some top → odd-top top ≡ true → length (identities (t .slots)) < 64
       → load-over image room id name key .answer ≡ 0
   unfolding delivering

@@ -5,7 +5,7 @@ use mathlib.Core.List.{[], _∷_}
 use mathlib.Core.Option.{some}
 use Prim.Native.Nat.{ℕ, _^_, _<_, _≤_}
 use lib.ListN.{length}
-use Rattle.octets.specs.Text.{Text}
+use Rattle.octets.specs.Text.{Text, stands}
 use Rattle.octets.specs.Part.{all-octets}
 use Rattle.keying.specs.declared.Top.{Top}
 use Rattle.keying.specs.declared.Top.the-variants.{Single, Pair}
@@ -16,6 +16,7 @@ use Rattle.calls.specs.declared.Request.{Request}
 use Rattle.calls.specs.Outcome.{Outcome, nothing, refusal, complaint, success}
 use Rattle.calls.specs.Calls.{Call, receive, build-ksm, build-rsi, give-up, load, remove, ask, run}
 use Rattle.calls.specs.Claims.{Sized}
+use Rattle.calls.specs.Orders.{answers}
 use Rattle.outcome.specs.Report.{replied}
 use Rattle.card.specs.Over.{outcome-over, image-over}
 use Rattle.card.specs.Whole.{ask-over, start-over, load-over, remove-over}
@@ -50,8 +51,8 @@ abbrev pub New-image : Outcome → Type 0
 New-image o = o .answer ≡ 0 → found (decode (o .reply)) ≡ true
 
 pub record Claims : Type 0 where
-  -- the answers are the paper's
-  pub answers-are-the-papers : (image : Text) (c : Call) → outcome-over image c .answer ≤ 13
+  -- the answers are the paper's, each call's own
+  pub answers-are-the-papers : (image : Text) (c : Call) → stands (outcome-over image c .answer) (answers c) ≡ true
   -- a refusal and an error leave every byte of the image as it was
   pub unless-done-nothing-changes : (image : Text) (c : Call)
       → (outcome-over image c .answer ≡ 0 → ⊥) → image-over image c ≡ image

@@ -19,14 +19,9 @@ use Rattle.image.specs.Image.{decode}
 use Rattle.calls.specs.declared.Request.{Request}
 use Rattle.calls.specs.Outcome.{nothing, refusal, success}
 use Rattle.calls.specs.Calls.{Call, receive, build-ksm, build-rsi, entry-of}
+use Rattle.calls.specs.Good.{Good-identity}
 use Rattle.card.specs.Over.{outcome-over}
 use Rattle.card.specs.Whole.{ask-over, start-over, top-in, load-over, remove-over}
-
--- well-formed, not our own, not taken
-pub record New-partner (t : Table) (id : Text) : Type 0 where
-  pub formed : is-name id ≡ true
-  pub not-ours : filled id ≡ t .own → ⊥
-  pub not-taken : entry-of id t ≡ none
 
 pub record Orders : Type 0 where
   -- every call: 13 before all else; receive and both builds: 6 next, reply room under 256
@@ -72,20 +67,20 @@ pub record Orders : Type 0 where
       → 10_065 ≤ room → entry-of id t ≡ some e → load-over image room id name key ≡ refusal 10
   -- then 12: the key name, or a key that is not of 8 or 16 bytes
   pub load-12-name : (image : Text) (t : Table) (room : ℕ) (id name key : Text) → decode image ≡ some t
-      → 10_065 ≤ room → New-partner t id → is-name name ≡ false → load-over image room id name key ≡ refusal 12
+      → 10_065 ≤ room → Good-identity t id → is-name name ≡ false → load-over image room id name key ≡ refusal 12
   pub load-12-key : (image : Text) (t : Table) (room : ℕ) (id name key : Text) → decode image ≡ some t
-      → 10_065 ≤ room → New-partner t id → (length key ≡ 8 → ⊥) → (length key ≡ 16 → ⊥)
+      → 10_065 ≤ room → Good-identity t id → (length key ≡ 8 → ⊥) → (length key ≡ 16 → ⊥)
       → load-over image room id name key ≡ refusal 12
   -- then 11: the top key, not of odd parity
   pub load-11 : (image : Text) (t : Table) (room : ℕ) (id name key : Text) (top : Top) → decode image ≡ some t
-      → 10_065 ≤ room → New-partner t id → is-name name ≡ true → top-in key ≡ some top → odd-top top ≡ false
+      → 10_065 ≤ room → Good-identity t id → is-name name ≡ true → top-in key ≡ some top → odd-top top ≡ false
       → load-over image room id name key ≡ refusal 11
   -- then 9: 64 entries in use
   pub load-9 : (image : Text) (t : Table) (room : ℕ) (id name key : Text) (top : Top) → decode image ≡ some t
-      → 10_065 ≤ room → New-partner t id → is-name name ≡ true → top-in key ≡ some top → odd-top top ≡ true
+      → 10_065 ≤ room → Good-identity t id → is-name name ≡ true → top-in key ≡ some top → odd-top top ≡ true
       → length (identities (t .slots)) ≡ 64 → load-over image room id name key ≡ refusal 9
   pub load-0 : (image : Text) (t : Table) (room : ℕ) (id name key : Text) (top : Top) → decode image ≡ some t
-      → 10_065 ≤ room → New-partner t id → is-name name ≡ true → top-in key ≡ some top → odd-top top ≡ true
+      → 10_065 ≤ room → Good-identity t id → is-name name ≡ true → top-in key ≡ some top → odd-top top ≡ true
       → length (identities (t .slots)) < 64 → load-over image room id name key .answer ≡ 0
   -- a single key is its 8 bytes, a pair its 16, the high byte first
   pub key-of-8 : top-in (0x01 ∷ 0x23 ∷ 0x45 ∷ 0x67 ∷ 0x89 ∷ 0xAB ∷ 0xCD ∷ 0xEF ∷ []) ≡ some (Single 0x0123456789ABCDEF)

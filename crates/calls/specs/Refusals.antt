@@ -1,5 +1,5 @@
--- What is claimed of the order of answers: each number's condition, where none earlier in the call's order holds. The
--- orders within a class and of build a KSM stand with the steps. Proved as `order` in proofs/Order.antt.
+-- What is claimed of each refusal before the steps: its condition in the paper's terms, where none earlier in the call's order holds.
+-- The refusals within a class and of build a KSM stand with the steps. Proved as `refusals` in proofs/Refusals.antt.
 use mathlib.Core.Path.{_≡_}
 use mathlib.Core.Bool.{true, false}
 use mathlib.Core.List.{List, _∷_, _++_, List·Memᴰ, []}
@@ -55,7 +55,7 @@ pub record Starts (own : Text) (t : Table) : Type 0 where
   pub size : length (t .slots) ≡ 64
   pub all-empty : Empty (t .slots)
 
-pub record Order : Type 0 where
+pub record Refusals : Type 0 where
   -- any call that is lent a table tests 13 before all else
   pub illegal-is-13 : (t : Table) (c : Call) → legal t ≡ false → run t c ≡ refuse t 13
   -- reply room under 256, and 256 is enough

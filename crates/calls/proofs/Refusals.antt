@@ -1,4 +1,4 @@
--- The claims of specs/Order.antt, proved: each call is walked in its order.
+-- The claims of specs/Refusals.antt, proved: each call is walked in its order.
 use mathlib.Core.Path.{_≡_, refl, sym, ap, _∙_, subst}
 use mathlib.Core.Bool.{Bool, true, false, cond, not}
 use mathlib.Core.List.{List, _∷_, _++_, List·Memᴰ, List·Memᴰ·head, List·Memᴰ·tail, List·Memᴰ·cases-cons, List·Memᴰ·not-nil, []}
@@ -30,7 +30,7 @@ use Rattle.calls.specs.Calls.{Call, receive, build-ksm, build-rsi, give-
 use Rattle.calls.specs.Calls.{entry-of, turned, at-partner, receiving, bad-identity, loading, placed, emptied, told}
 use Rattle.calls.specs.Calls.{perform, run}
 use Rattle.calls.specs.Good.{Good-identity}
-use Rattle.calls.specs.Order.{In-use, Empty, Loads, Order}
+use Rattle.calls.specs.Refusals.{In-use, Empty, Loads, Refusals}
 use Rattle.calls.proofs.Tests.{if-true, if-false, never}
 use Rattle.calls.proofs.Slots.{empty-is, put-found}
 use Rattle.calls.proofs.Identities.{find-none}
@@ -147,7 +147,7 @@ found-differs id (e ∷ l) h = go (same (e .identity .bytes) id) refl h (found-d
 
 good-identity : (t : Table) (id : Text) → Good-identity t id → bad-identity t id ≡ false
 good-identity t id g =
-    rw (g .formed, not-same (t .own) (filled id) (λ p. g .not-ours (sym p)), found-differs (filled id) (t .slots) (g .not-taken))
+    rw (g .formed, not-same (t .own) (filled id) (λ p. g .not-ours (sym p)), found-differs (filled id) (t .slots) (sym (if-true (is-name id) _ _ (g .formed)) ∙ g .not-taken))
   where
     not-same : (v w : Text) → (v ≡ w → ⊥) → same v w ≡ false
     not-same v w n = go (same v w) refl
@@ -164,7 +164,9 @@ identity-good t id h =
       formed = a .0;
       not-ours = λ p. never (same (t .own) (filled id))
           (subst (λ (w : Text). same w (filled id) ≡ true) p (same-refl (filled id))) (not-true _ (b .0));
-      not-taken = find-none (filled id) (claims .filled-is-filled id (a .0)) (t .slots) (b .1);
+      not-taken =
+          if-true (is-name id) _ _ (a .0)
+          ∙ find-none (filled id) (claims .filled-is-filled id (a .0)) (t .slots) (b .1);
     }
 
 -- where each slot is in use, none is free; else the lowest is taken
@@ -296,9 +298,9 @@ empties-empty (suc n) e i = go (List·Memᴰ·cases-cons i) (empties-empty n e)
     go (inl q) ih = rw q empty-is
     go (inr j) ih = ih j
 
-pub order : Order
+pub refusals : Refusals
 unfolding perform start empties
-order = record {
+refusals = record {
   illegal-is-13 = illegal;
   no-room-to-receive = λ t room text l h. lawful t (receive room text) l ∙ cramped t room _ h;
   no-room-to-build = λ t room id q l h. lawful t (build-ksm room id q) l ∙ cramped t room _ h;
