@@ -23,7 +23,7 @@ use Rattle.partner.specs.Changes.{loaded}
 use Rattle.partner.proofs.Claims.{claims}
 use Rattle.image.specs.Table.{Table, legal, is-empty, identities, differs, find, put, place, behind, holding, empties}
 use Rattle.calls.specs.Words.{if_then_else_}
-use Rattle.calls.specs.Outcome.{Turn, success, nothing, shown, refused}
+use Rattle.calls.specs.Outcome.{Turn, success, nothing, refused}
 use Rattle.calls.specs.Receive as by-class
 use Rattle.calls.specs.Build as building
 use Rattle.calls.specs.Calls.{Call, receive, build-ksm, build-rsi, give-up, load, remove, ask, After, refuse, start}
@@ -121,12 +121,12 @@ gone t id e l k =
     let p = lawful t (remove id) l ∙ ap (turned t id emptied) k in
     (ap (λ (a : After). a .outcome) p, ap (λ (a : After). entry-of id (a .table)) p ∙ emptied-after t id e l (entry-held t id e k))
 
-is-shown : (t : Table) (id : Text) (e : Entry) → legal t ≡ true → entry-of id t ≡ some e
-    → run t (ask id) ≡ record { outcome = success [] (shown e); table = t }
+is-found : (t : Table) (id : Text) (e : Entry) → legal t ≡ true → entry-of id t ≡ some e
+    → run t (ask id) ≡ record { outcome = success [] nothing; table = t }
 unfolding perform at-partner
-is-shown t id e l k =
+is-found t id e l k =
     lawful t (ask id) l ∙ ap (turned t id told) k
-    ∙ (λ j. record { outcome = success [] (shown e); table = same-table t id e k j })
+    ∙ (λ j. record { outcome = success [] nothing; table = same-table t id e k j })
 
 -- ---- load
 
@@ -316,7 +316,7 @@ refusals = record {
   nobody-to-show = λ t id l n. lawful t (ask id) l ∙ nobody t id _ n;
   no-service-is-12 = service-refused;
   removed-is-gone = gone;
-  asked-is-shown = is-shown;
+  asked-is-found = is-found;
   bad-identity-is-10 = is-10;
   bad-name-is-12 = is-12;
   even-top-is-11 = is-11;

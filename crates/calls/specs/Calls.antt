@@ -15,7 +15,7 @@ use Rattle.partner.specs.Changes.{loaded}
 use Rattle.image.specs.Table.{Table, legal, identities, differs, find, put, place, holding, started}
 use Rattle.calls.specs.declared.Request.{Request}
 use Rattle.calls.specs.Words.{if_then_else_}
-use Rattle.calls.specs.Outcome.{Outcome, refusal, success, nothing, shown, Turn, done}
+use Rattle.calls.specs.Outcome.{Outcome, refusal, success, nothing, Turn, done}
 use Rattle.calls.specs.Receive as by-class
 use Rattle.calls.specs.Build as building
 
@@ -88,7 +88,7 @@ abbrev pub emptied : Entry → Turn
 emptied e = done empty [] nothing
 
 abbrev pub told : Entry → Turn
-told e = done e [] (shown e)
+told e = done e [] nothing
 
 -- ---- every call in a legal table
 

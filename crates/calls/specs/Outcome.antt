@@ -24,14 +24,13 @@ O = 64
 abbrev pub P : ℕ
 P = 128
 
--- what is told besides: of an RSI the service wanted, of a KSM IV and date, of an ESM its letters; an entry asked for
+-- what is told besides: of an RSI the service wanted, of a KSM IV and date, of an ESM its letters
 pub data Told : Type 0 where
   nothing : Told
   service : ℕ → Told
   keys : Option ℕ → Option Text → Told
   confirmation : Told
   failure : ℕ → Told
-  shown : Entry → Told
 
 pub record Outcome : Type 0 where
   pub answer : ℕ

@@ -17,7 +17,7 @@ use Rattle.partner.specs.declared.Entry.{Entry}
 use Rattle.partner.specs.Entry.{filled, top-of, no-keys, idle}
 use Rattle.image.specs.Table.{Table, legal, is-empty}
 use Rattle.calls.specs.declared.Request.{Request}
-use Rattle.calls.specs.Outcome.{success, nothing, shown}
+use Rattle.calls.specs.Outcome.{success, nothing}
 use Rattle.calls.specs.Calls.{Call, receive, build-ksm, build-rsi, give-up, load, remove, ask, After, refuse, start}
 use Rattle.calls.specs.Calls.{entry-of, run}
 use Rattle.calls.specs.Good.{Good-identity}
@@ -89,8 +89,8 @@ pub record Refusals : Type 0 where
   -- remove and ask for an entry
   pub removed-is-gone : (t : Table) (id : Text) (e : Entry) → legal t ≡ true → entry-of id t ≡ some e
       → (run t (remove id) .outcome ≡ success [] nothing) × (entry-of id (run t (remove id) .table) ≡ none)
-  pub asked-is-shown : (t : Table) (id : Text) (e : Entry) → legal t ≡ true → entry-of id t ≡ some e
-      → run t (ask id) ≡ record { outcome = success [] (shown e); table = t }
+  pub asked-is-found : (t : Table) (id : Text) (e : Entry) → legal t ≡ true → entry-of id t ≡ some e
+      → run t (ask id) ≡ record { outcome = success [] nothing; table = t }
   -- load: identity malformed, our own, or taken; key name; top key; 64 entries in use
   pub bad-identity-is-10 : (t : Table) (id name : Text) (top : Top) → legal t ≡ true → (Good-identity t id → ⊥)
       → run t (load id name top) ≡ refuse t 10

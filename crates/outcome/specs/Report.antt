@@ -9,7 +9,7 @@ use Rattle.octets.specs.Number.{copies}
 use Rattle.csm.specs.Message.{found}
 use Rattle.partner.specs.declared.Entry.{Entry}
 use Rattle.calls.specs.declared.Date.{Date}
-use Rattle.calls.specs.Outcome.{Outcome, Turn, Told, nothing, service, keys, confirmation, failure, shown}
+use Rattle.calls.specs.Outcome.{Outcome, Turn, Told, nothing, service, keys, confirmation, failure}
 use Rattle.outcome.specs.declared.Handed.{Handed}
 use Rattle.outcome.specs.declared.Telling.{Telling}
 use Rattle.outcome.specs.declared.Telling.the-variants.{Nothing, Service, Keys, Confirmation, Failure}
@@ -27,14 +27,13 @@ or-zero (some n) = n
 abbrev pub handed : Option ℕ → Option Text → Handed
 handed iv edk = record { vector = found iv; iv = or-zero iv; dated = found edk }
 
--- case by case; an entry asked for is given by itself
+-- case by case
 abbrev pub telling : Told → Telling
 telling nothing = Nothing
 telling (service s) = Service s
 telling (keys iv edk) = Keys (handed iv edk)
 telling confirmation = Confirmation
 telling (failure letters) = Failure letters
-telling (shown e) = Nothing
 
 -- the digits of a date, or zeros where there is none
 abbrev pub no-date : Date
@@ -50,7 +49,6 @@ date-told (service s) = no-date
 date-told (keys iv edk) = date-of edk
 date-told confirmation = no-date
 date-told (failure letters) = no-date
-date-told (shown e) = no-date
 
 -- ---- the whole
 
