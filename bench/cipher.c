@@ -8,7 +8,6 @@
 #include <stdio.h>
 #include <stdlib.h>
 
-#include "../host/bytes.h"
 #include "../host/khlongsit.h"
 #include "clock.h"
 
@@ -26,10 +25,10 @@ static void ours(void *length) { mac = khl_test_mac(key_number, text, *(size_t *
 
 static void ours_block(void *length) {
     (void)length;
-    mac = (uint32_t)(khl_test_encipher(key_number, number_at(text, KHL_KEY)) >> 32);
+    mac = (uint32_t)(khl_test_encipher(key_number, khl_number(text, KHL_KEY)) >> 32);
 }
 
-static void keep_mac(size_t length) { mac = (uint32_t)number_at(output + length - KHL_KEY, 4); }
+static void keep_mac(size_t length) { mac = (uint32_t)khl_number(output + length - KHL_KEY, 4); }
 
 static void nettle(void *with) {
     size_t length = *(size_t *)with;

@@ -5,7 +5,6 @@
 #include <stdlib.h>
 #include <string.h>
 
-#include "../host/bytes.h"
 #include "../tests/face/cards.h"
 #include "clock.h"
 
@@ -52,25 +51,22 @@ static void write_ksm(struct text *text, const struct shape *shape) {
     uint8_t request[KHL_REQUEST] = {0};
     make_card(&theirs, partner(shape));
     uint8_t *record = add_partner(&theirs, own(shape), PAIR);
-    put_name(record + KHL_RECORD_NAME, LONG_OWN);
+    khl_put_name(record + KHL_RECORD_NAME, LONG_OWN);
     put_sending(record, shape->count, shape->count == 1 ? KHL_PHASE_IDLE : KHL_PHASE_BROKEN, 0);
-    request[KHL_REQUEST_COUNT] = (uint8_t)shape->keys;
-    for (int i = 0; i < shape->keys; i++) {
-        uint8_t *asked = request + (i == 0 ? KHL_REQUEST_FIRST : KHL_REQUEST_SECOND);
-        put_number(asked + KHL_ASKED_KEY, KHL_KEY, i == 0 ? 0x133457799BBCDFF1 : 0x0E329232EA6D0D73);
-        asked[KHL_ASKED_FLAGS] = shape->flags;
-        put_name(asked + KHL_ASKED_NAME, LONG_PARTNER);
+    khl_request_put_count(request, shape->keys);
+    for (int i = 0; i < shape->keys; i++)
+        put_asked(request, i, i == 0 ? 0x133457799BBCDFF1 : 0x0E329232EA6D0D73, shape->flags, LONG_PARTNER);
+    if (shape->iv_and_date) {
+        put_iv(request, KHL_IV_ENCIPHERED, 0);
+        put_date(request, "840229235959");
     }
-    request[KHL_REQUEST_IV_KIND] = shape->iv_and_date ? KHL_IV_ENCIPHERED : KHL_IV_NONE;
-    request[KHL_REQUEST_DATED] = (uint8_t)shape->iv_and_date;
-    memcpy(request + KHL_REQUEST_DATE, "840229235959", KHL_DATE);
     const char *us = own(shape);
     if (khl_build_ksm(theirs.bytes, theirs.length, (const uint8_t *)us, strlen(us), request, sizeof request, reply,
                       sizeof reply, report) != KHL_DONE) {
         fprintf(stderr, "a KSM is not built\n");
         exit(1);
     }
-    text->length = number_at(report + KHL_REPORT_LENGTH, 2);
+    text->length = khl_report_length(report);
     memcpy(text->bytes, reply, text->length);
 }
 
@@ -86,15 +82,15 @@ static void make_test(struct test *test, int partners, const struct shape *shape
         add_partner(&test->image, identity, PAIR);
     }
     test->record = add_partner(&test->image, partner(shape), PAIR);
-    put_name(test->record + KHL_RECORD_NAME, LONG_OWN);
+    khl_put_name(test->record + KHL_RECORD_NAME, LONG_OWN);
     memcpy(test->fresh, test->record, KHL_RECORD);
     write_ksm(&test->text, shape);
     if (receive(test) != KHL_DONE) {
         fprintf(stderr, "a good KSM of %zu bytes is not taken\n", test->text.length);
         exit(1);
     }
-    test->needed = 3 * shape->keys + shape->iv_and_date + mac_blocks(test->text.length) +
-                   mac_blocks(number_at(report + KHL_REPORT_LENGTH, 2));
+    test->needed =
+        3 * shape->keys + shape->iv_and_date + mac_blocks(test->text.length) + mac_blocks(khl_report_length(report));
     test->place = add_work(receive_work, test);
 }
 

@@ -6,7 +6,6 @@
 #include <stdlib.h>
 #include <string.h>
 
-#include "bytes.h"
 #include "keys.h"
 #include "khlongsit.h"
 #include "words.h"
@@ -60,8 +59,8 @@ static void row(int number, const char *event, const char *answer) {
     for (int card = MILL; card < CARDS; card++) {
         uint8_t record[KHL_ROOM];
         ask(card, record);
-        printf(" %-9s %4" PRIu64 " %4" PRIu64, phase_word(record[KHL_RECORD_PHASE]),
-               number_at(record + KHL_RECORD_NEXT, 4), number_at(record + KHL_RECORD_EXPECTED, 4));
+        printf(" %-9s %4" PRIu32 " %4" PRIu32, phase_word(khl_record_phase(record)), khl_record_next(record),
+               khl_record_expected(record));
     }
     putchar('\n');
 }
@@ -86,7 +85,7 @@ static int keep(int from, const uint8_t *reply, const uint8_t *report) {
     if (messages == MESSAGES)
         exit(EXIT_FAILURE);
     m->from = from;
-    m->length = number_at(report + KHL_REPORT_LENGTH, 2);
+    m->length = khl_report_length(report);
     memcpy(m->text, reply, m->length);
     return messages++;
 }
@@ -95,10 +94,10 @@ static void load(int card, const uint8_t *key, size_t bytes) {
     uint8_t empty[KHL_IMAGE_MOST], report[KHL_REPORT];
     const char *own = names[card], *partner = names[other(card)], *name = "TOPKEY7";
     expect(khl_start(bytes_of(own), strlen(own), empty, sizeof empty, report), KHL_DONE);
-    expect(khl_load(empty, number_at(report + KHL_REPORT_LENGTH, 2), bytes_of(partner), strlen(partner), bytes_of(name),
-                    strlen(name), key, bytes, cards[card].image, KHL_IMAGE_MOST, report),
+    expect(khl_load(empty, khl_report_length(report), bytes_of(partner), strlen(partner), bytes_of(name), strlen(name),
+                    key, bytes, cards[card].image, KHL_IMAGE_MOST, report),
            KHL_DONE);
-    cards[card].length = number_at(report + KHL_REPORT_LENGTH, 2);
+    cards[card].length = khl_report_length(report);
 }
 
 /* the row of a message just built */
@@ -124,16 +123,16 @@ static int build_rsi(int from, const char *service, const char *event) {
  * the same */
 static int build_ksm(int from, int keys, const char *event) {
     static uint64_t fresh = 0x1F0E2D3C4B5A6978;
-    uint8_t request[KHL_REQUEST] = {(uint8_t)keys}, reply[KHL_ROOM], report[KHL_REPORT];
+    uint8_t request[KHL_REQUEST] = {0}, reply[KHL_ROOM], report[KHL_REPORT];
     const char *partner = names[other(from)];
+    khl_request_put_count(request, keys);
     for (int i = 0; i < keys; i++) {
-        uint8_t *asked = request + (i == 0 ? KHL_REQUEST_FIRST : KHL_REQUEST_SECOND);
-        put_number(asked + KHL_ASKED_KEY, KHL_KEY, fresh = khl_test_encipher(fresh, fresh));
-        asked[KHL_ASKED_FLAGS] = KHL_FLAG_IDK1;
-        put_name(asked + KHL_ASKED_NAME, i == 0 ? "AUTH1" : "DATA1");
+        khl_put_number(khl_request_key(request, i), KHL_KEY, fresh = khl_test_encipher(fresh, fresh));
+        khl_request_put_flags(request, i, KHL_FLAG_IDK1);
+        khl_put_name(khl_request_name(request, i), i == 0 ? "AUTH1" : "DATA1");
     }
-    request[KHL_REQUEST_IV_KIND] = KHL_IV_ENCIPHERED;
-    put_number(request + KHL_REQUEST_IV, KHL_KEY, 0x1122334455667788);
+    khl_request_put_iv_kind(request, KHL_IV_ENCIPHERED);
+    khl_put_number(khl_request_iv(request), KHL_KEY, 0x1122334455667788);
     uint32_t answer = khl_build_ksm(cards[from].image, cards[from].length, bytes_of(partner), strlen(partner), request,
                                     sizeof request, reply, sizeof reply, report);
     return built(from, event, answer, reply, report);
@@ -150,7 +149,7 @@ static int bring(int number, const char *event, uint32_t wanted) {
     uint8_t reply[KHL_ROOM], report[KHL_REPORT];
     char account[64];
     uint32_t answer = khl_receive(to->image, to->length, m->text, m->length, reply, sizeof reply, report);
-    int reply_number = number_at(report + KHL_REPORT_LENGTH, 2) > 0 ? keep(other(m->from), reply, report) : -1;
+    int reply_number = khl_report_length(report) > 0 ? keep(other(m->from), reply, report) : -1;
     describe(account, sizeof account, answer, report);
     row(number, event, account);
     expect(answer, wanted);
@@ -197,17 +196,16 @@ static void compare(int from) {
     uint8_t ours[KHL_ROOM], theirs[KHL_ROOM];
     ask(from, ours);
     ask(other(from), theirs);
-    const uint8_t *outgoing = ours + KHL_RECORD_OUTGOING, *incoming = theirs + KHL_RECORD_INCOMING;
-    int equal = memcmp(outgoing, incoming, KHL_RECORD - KHL_RECORD_INCOMING) == 0;
-    int confirmed = ours[KHL_RECORD_PHASE] == KHL_PHASE_CONFIRMED;
+    const uint8_t *outgoing = khl_record_outgoing(ours), *incoming = khl_record_incoming(theirs);
+    int equal = memcmp(outgoing, incoming, KHL_SET) == 0;
+    int confirmed = khl_record_phase(ours) == KHL_PHASE_CONFIRMED;
     printf("%s to %s: %s, the keys at both ends are %s\n", names[from], names[other(from)],
-           phase_word(ours[KHL_RECORD_PHASE]), equal ? "equal" : "DIFFERENT");
-    for (int i = 0; i < outgoing[KHL_SET_COUNT]; i++) {
-        size_t place = i == 0 ? KHL_SET_FIRST : KHL_SET_SECOND;
-        const uint8_t *name = outgoing + place + KHL_PLACE_NAME;
-        printf("    %.*s: check value %06" PRIX32 " at %s, %06" PRIX32 " at %s\n", bare_length(name),
-               (const char *)name, check_value(outgoing + place, KHL_KEY), names[from],
-               check_value(incoming + place, KHL_KEY), names[other(from)]);
+           phase_word(khl_record_phase(ours)), equal ? "equal" : "DIFFERENT");
+    for (int i = 0; i < khl_set_count(outgoing); i++) {
+        const uint8_t *name = khl_set_name(outgoing, i);
+        printf("    %.*s: check value %06" PRIX32 " at %s, %06" PRIX32 " at %s\n", (int)khl_name_length(name),
+               (const char *)name, check_value(khl_set_key(outgoing, i), KHL_KEY), names[from],
+               check_value(khl_set_key(incoming, i), KHL_KEY), names[other(from)]);
     }
     wrong += !equal || !confirmed;
 }

@@ -23,8 +23,13 @@
  * - An ESM carries no MAC. Whoever can write to the line can break a waiting exchange with one, and an ESM whose CTP is
  *   99,999,999 spends the send count: no key message can be built for that partner until both ends load each other
  *   anew.
- * - Comparing MACs, names and keys does not take constant time.
- * - Image, record and request hold keys in the clear.
+ * - Nothing takes constant time: comparing MACs, names and keys does not, and the cipher's table look-ups have indices
+ *   made of keys and data. Who can time the calls, or shares the processor's cache, may learn of keys.
+ * - Image, record and request hold keys in the clear, and so does every copy of them: wiping them is the host's part.
+ * - Keys and key schedules are left on the stack by a call. A host that wants them gone overwrites KHL_STACK bytes of
+ *   stack after it, from where it was called.
+ * - A call needs at most KHL_STACK bytes of stack; a test holds that with 64 partners on a painted stack, which has
+ *   3,872 bytes used by receive and build a KSM, 3,384 by build an RSI and give up, at most 1,288 by the others.
  */
 #ifndef KHLONGSIT_H
 #define KHLONGSIT_H
@@ -41,7 +46,8 @@ enum khl_answer {
     KHL_DONE = 0,          /* done */
     KHL_NO_MESSAGE = 1,    /* the text is not a message; also a text of 0 bytes or of more than 512 */
     KHL_NOT_FOR_US = 2,    /* RCV is not us */
-    KHL_NO_PARTNER = 3,    /* partner not in the table; also a malformed identity, and ORG equal to our own */
+    KHL_NO_PARTNER = 3,    /* partner not in the table; also a malformed identity (but 10 in start and load), and ORG
+                            * equal to our own */
     KHL_ERROR = 4,         /* error: the letters are reported, the reply is an ESM, the table is unchanged */
     KHL_NONE_WAITING = 5,  /* nothing is waiting */
     KHL_NO_ROOM = 6,       /* reply room under 256 bytes, or room for a new image under 10,065 */
@@ -64,13 +70,45 @@ enum {
     KHL_IMAGE_LEAST = 81,   /* an image without partners */
     KHL_IMAGE_MOST = 10065, /* an image with 64 partners, and the least room for a new image */
     KHL_RECORD = 156,       /* the body of a partner's record */
+    KHL_SET = 49,           /* a key set in it */
     KHL_NAME = 16,          /* a name or identity filled with blanks; bare, it has 1 to 16 of A-Z, 0-9 */
     KHL_KEY = 8,            /* a key; a pair has two, left then right */
     KHL_DATE = 12,          /* a date, YYMMDDHHMMSS in digits */
-    KHL_PARTNERS = 64       /* the slots of a table */
+    KHL_PARTNERS = 64,      /* the slots of a table */
+    KHL_STACK = 4096        /* the stack that a call needs, at most */
 };
 
 #define KHL_COUNT_LAST 99999999u /* the last count: neither sent nor accepted */
+
+/* ---- numbers and names as image, record, request and report store them */
+
+/* The number that stands there. */
+static inline uint64_t khl_number(const uint8_t *at, size_t bytes) {
+    uint64_t number = 0;
+    for (size_t i = 0; i < bytes; i++)
+        number = number << 8 | at[i];
+    return number;
+}
+
+/* Puts a number there. */
+static inline void khl_put_number(uint8_t *at, size_t bytes, uint64_t number) {
+    for (size_t i = bytes; i > 0; i--, number >>= 8)
+        at[i - 1] = (uint8_t)number;
+}
+
+/* The length of a name without the blanks that fill it; 0 where it is missing. */
+static inline size_t khl_name_length(const uint8_t *name) {
+    size_t length = 0;
+    while (length < KHL_NAME && name[length] != ' ')
+        length++;
+    return length;
+}
+
+/* Puts a name there and fills it with blanks; what is longer than 16 bytes is cut. */
+static inline void khl_put_name(uint8_t *at, const char *name) {
+    for (size_t i = 0; i < KHL_NAME; i++)
+        at[i] = (uint8_t)(*name != '\0' ? *name++ : ' ');
+}
 
 /* ---- the report: where each part stands */
 enum {
@@ -117,12 +155,29 @@ enum khl_service {
     KHL_SERVICE_PAIR_KD_IV /* *KK.KD.IV */
 };
 
+static inline unsigned khl_report_letters(const uint8_t *report) {
+    return (unsigned)khl_number(report + KHL_REPORT_LETTERS, 2);
+}
+static inline size_t khl_report_length(const uint8_t *report) {
+    return (size_t)khl_number(report + KHL_REPORT_LENGTH, 2);
+}
+static inline enum khl_class khl_report_class(const uint8_t *report) {
+    return (enum khl_class)report[KHL_REPORT_CLASS];
+}
+static inline enum khl_service khl_report_service(const uint8_t *report) {
+    return (enum khl_service)report[KHL_REPORT_SERVICE];
+}
+static inline int khl_report_iv_present(const uint8_t *report) { return report[KHL_REPORT_IV_PRESENT]; }
+static inline int khl_report_date_present(const uint8_t *report) { return report[KHL_REPORT_DATE_PRESENT]; }
+static inline const uint8_t *khl_report_iv(const uint8_t *report) { return report + KHL_REPORT_IV; }
+static inline const uint8_t *khl_report_date(const uint8_t *report) { return report + KHL_REPORT_DATE; }
+
 /* ---- the request for a KSM: where each part stands */
 enum {
     KHL_REQUEST_COUNT = 0,    /* 1 byte: number of keys, 1 or 2 */
     KHL_REQUEST_FIRST = 1,    /* 25 bytes: the first key */
     KHL_REQUEST_SECOND = 26,  /* 25 bytes: the second key; not judged where there is one key */
-    KHL_REQUEST_IV_KIND = 51, /* 1 byte: enum khl_iv_kind */
+    KHL_REQUEST_IV_KIND = 51, /* 1 byte: enum khl_iv_kind; above 2 is 12 */
     KHL_REQUEST_IV = 52,      /* 8 bytes: the IV in the clear; not judged where there is none */
     KHL_REQUEST_DATED = 60,   /* 1 byte: 1 to write EDK, else 0 */
     KHL_REQUEST_DATE = 61,    /* 12 bytes: the date, digits; not judged where EDK is not written */
@@ -141,15 +196,56 @@ enum khl_flag {
 
 enum khl_iv_kind { KHL_IV_NONE, KHL_IV_PLAIN, KHL_IV_ENCIPHERED };
 
+/* A request begins as 73 zero bytes. The first key has place 0, the second 1. */
+static inline size_t khl_request_asked(int place) { return place == 0 ? KHL_REQUEST_FIRST : KHL_REQUEST_SECOND; }
+
+static inline int khl_request_count(const uint8_t *request) { return request[KHL_REQUEST_COUNT]; }
+static inline unsigned khl_request_flags(const uint8_t *request, int place) {
+    return request[khl_request_asked(place) + KHL_ASKED_FLAGS];
+}
+static inline enum khl_iv_kind khl_request_iv_kind(const uint8_t *request) {
+    return (enum khl_iv_kind)request[KHL_REQUEST_IV_KIND];
+}
+static inline int khl_request_dated(const uint8_t *request) { return request[KHL_REQUEST_DATED]; }
+
+static inline void khl_request_put_count(uint8_t *request, int keys) { request[KHL_REQUEST_COUNT] = (uint8_t)keys; }
+static inline void khl_request_put_flags(uint8_t *request, int place, unsigned flags) {
+    request[khl_request_asked(place) + KHL_ASKED_FLAGS] = (uint8_t)flags;
+}
+static inline void khl_request_put_iv_kind(uint8_t *request, enum khl_iv_kind kind) {
+    request[KHL_REQUEST_IV_KIND] = (uint8_t)kind;
+}
+static inline void khl_request_put_dated(uint8_t *request, int dated) { request[KHL_REQUEST_DATED] = (uint8_t)dated; }
+
+/* where the bytes of a key, its name, the IV and the date are put */
+static inline uint8_t *khl_request_key(uint8_t *request, int place) {
+    return request + khl_request_asked(place) + KHL_ASKED_KEY;
+}
+static inline uint8_t *khl_request_name(uint8_t *request, int place) {
+    return request + khl_request_asked(place) + KHL_ASKED_NAME;
+}
+static inline uint8_t *khl_request_iv(uint8_t *request) { return request + KHL_REQUEST_IV; }
+static inline uint8_t *khl_request_date(uint8_t *request) { return request + KHL_REQUEST_DATE; }
+
 /* ---- the image: kind 1 and our identity (17 bytes), then 64 records, each kind 0 (an empty slot, 1 byte) or kind 2
  * and the 156 bytes of a partner (157 bytes) */
 enum { KHL_IMAGE_OWN = 1, KHL_IMAGE_SLOTS = 17, KHL_KIND_EMPTY = 0, KHL_KIND_OWN = 1, KHL_KIND_PARTNER = 2 };
+
+static inline const uint8_t *khl_image_own(const uint8_t *image) { return image + KHL_IMAGE_OWN; }
+
+/* The record in a slot of a legal image, 0 to 63; null where the slot is empty. */
+static inline const uint8_t *khl_image_record(const uint8_t *image, int slot) {
+    const uint8_t *kind = image + KHL_IMAGE_SLOTS;
+    for (; slot > 0; slot--)
+        kind += *kind == KHL_KIND_PARTNER ? 1 + KHL_RECORD : 1;
+    return *kind == KHL_KIND_PARTNER ? kind + 1 : NULL;
+}
 
 /* ---- a partner's record: where each part stands in its 156 bytes */
 enum {
     KHL_RECORD_IDENTITY = 0,   /* 16 bytes */
     KHL_RECORD_NAME = 16,      /* 16 bytes: the key name */
-    KHL_RECORD_FORM = 32,      /* 1 byte: 1 a single key, 2 a pair */
+    KHL_RECORD_FORM = 32,      /* 1 byte: enum khl_form */
     KHL_RECORD_TOP = 33,       /* 16 bytes: the top key, a single key's second half zero */
     KHL_RECORD_NEXT = 49,      /* 4 bytes: next send count */
     KHL_RECORD_EXPECTED = 53,  /* 4 bytes: next expected count */
@@ -166,7 +262,33 @@ enum {
     KHL_PLACE_NAME = 8
 };
 
+enum khl_form { KHL_FORM_SINGLE = 1, KHL_FORM_PAIR = 2 };
 enum khl_phase { KHL_PHASE_IDLE, KHL_PHASE_WAITING, KHL_PHASE_CONFIRMED, KHL_PHASE_BROKEN };
+
+static inline const uint8_t *khl_record_identity(const uint8_t *record) { return record + KHL_RECORD_IDENTITY; }
+static inline const uint8_t *khl_record_name(const uint8_t *record) { return record + KHL_RECORD_NAME; }
+static inline enum khl_form khl_record_form(const uint8_t *record) { return (enum khl_form)record[KHL_RECORD_FORM]; }
+static inline const uint8_t *khl_record_top(const uint8_t *record) { return record + KHL_RECORD_TOP; }
+static inline uint32_t khl_record_next(const uint8_t *record) {
+    return (uint32_t)khl_number(record + KHL_RECORD_NEXT, 4);
+}
+static inline uint32_t khl_record_expected(const uint8_t *record) {
+    return (uint32_t)khl_number(record + KHL_RECORD_EXPECTED, 4);
+}
+static inline enum khl_phase khl_record_phase(const uint8_t *record) {
+    return (enum khl_phase)record[KHL_RECORD_PHASE];
+}
+static inline const uint8_t *khl_record_outgoing(const uint8_t *record) { return record + KHL_RECORD_OUTGOING; }
+static inline const uint8_t *khl_record_incoming(const uint8_t *record) { return record + KHL_RECORD_INCOMING; }
+
+/* The first key of a set has place 0, the second 1. */
+static inline int khl_set_count(const uint8_t *set) { return set[KHL_SET_COUNT]; }
+static inline const uint8_t *khl_set_key(const uint8_t *set, int place) {
+    return set + (place == 0 ? KHL_SET_FIRST : KHL_SET_SECOND) + KHL_PLACE_KEY;
+}
+static inline const uint8_t *khl_set_name(const uint8_t *set, int place) {
+    return set + (place == 0 ? KHL_SET_FIRST : KHL_SET_SECOND) + KHL_PLACE_NAME;
+}
 
 /* ---- the calls of the line */
 
@@ -184,10 +306,11 @@ uint32_t khl_receive(uint8_t *image, size_t image_len, const uint8_t *text, size
                      size_t reply_len, uint8_t *report);
 
 /* Builds a KSM for a partner. Answers 13, 6, 3, 7, 8, 11 (a key to be marked P is not of odd parity), 12 (a request not
- * of 73 bytes, no key, more than two, two equal keys, or a bad name, date or flag; in a request of 73 bytes with one or
- * two keys 11 comes before every fault of 12, otherwise no key is used and there is no 11); otherwise 0: the reply is
- * the message with the next send count, which rises by one; the outgoing keys are set, named by the IDK1 written;
- * phase 1. The reply's length is reported. In phase 2 the keys confirmed before are dropped at once. */
+ * of 73 bytes, no key, more than two, two equal keys, or a bad name, date or flag, an IV kind above 2 among them; in a
+ * request of 73 bytes with one or two keys 11 comes before every fault of 12, otherwise no key is used and there is no
+ * 11); otherwise 0: the reply is the message with the next send count, which rises by one; the outgoing keys are set,
+ * named by the IDK1 written; phase 1. The reply's length is reported. In phase 2 the keys confirmed before are dropped
+ * at once. */
 uint32_t khl_build_ksm(uint8_t *image, size_t image_len, const uint8_t *partner, size_t partner_len,
                        const uint8_t *request, size_t request_len, uint8_t *reply, size_t reply_len, uint8_t *report);
 
@@ -208,11 +331,12 @@ uint32_t khl_give_up(uint8_t *image, size_t image_len, const uint8_t *partner, s
 /* ---- the calls of the custodians: each writes a whole new image to `out`, which must have room for 10,065 bytes,
  * reports the new image's length, and leaves the bytes of `out` behind it as they were */
 
-/* A new image with our identity and 64 empty slots. Answers 6, 10; otherwise 0. */
+/* A new image with our identity and 64 empty slots. Answers 6, 10 (a malformed identity); otherwise 0. */
 uint32_t khl_start(const uint8_t *own, size_t own_len, uint8_t *out, size_t out_len, uint8_t *report);
 
 /* Loads a partner into the lowest free slot: counts 1, phase 0, no data keys. The key is 8 bytes, or 16 for a pair.
- * Answers 13, 6, 10, 12 (malformed key name, or a key of another length), 11 (either half), 9; otherwise 0. */
+ * Answers 13, 6, 10 (an identity that is malformed, our own or taken), 12 (malformed key name, or a key of another
+ * length), 11 (either half), 9; otherwise 0. */
 uint32_t khl_load(const uint8_t *image, size_t image_len, const uint8_t *partner, size_t partner_len,
                   const uint8_t *name, size_t name_len, const uint8_t *key, size_t key_len, uint8_t *out,
                   size_t out_len, uint8_t *report);

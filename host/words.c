@@ -4,9 +4,6 @@
 #include <stdarg.h>
 #include <stdio.h>
 
-#include "bytes.h"
-#include "khlongsit.h"
-
 #define WORD(table, number) ((number) < sizeof table / sizeof *table ? table[number] : "unknown")
 
 const char *answer_words(uint32_t answer) {
@@ -29,22 +26,22 @@ const char *answer_words(uint32_t answer) {
     return WORD(words, answer);
 }
 
-const char *phase_word(uint8_t phase) {
+const char *phase_word(enum khl_phase phase) {
     static const char *const words[] = {"idle", "waiting", "confirmed", "broken"};
     return WORD(words, phase);
 }
 
-const char *form_word(uint8_t form) {
+const char *form_word(enum khl_form form) {
     static const char *const words[] = {"none", "single", "pair"};
     return WORD(words, form);
 }
 
-static const char *class_word(uint8_t class) {
+static const char *class_word(enum khl_class class) {
     static const char *const words[] = {"none", "RSI", "KSM", "RSM", "ESM"};
     return WORD(words, class);
 }
 
-static const char *service_word(uint8_t service) {
+static const char *service_word(enum khl_service service) {
     static const char *const words[] = {
         "none",  "one data key", "IV",  "KD",     "KD.IV",  "KK",        "KK.IV",
         "KK.KD", "KK.KD.IV",     "*KK", "*KK.IV", "*KK.KD", "*KK.KD.IV",
@@ -68,7 +65,7 @@ static void add(struct text *text, const char *format, ...) {
     text->room -= step;
 }
 
-static void add_letters(struct text *text, uint64_t letters) {
+static void add_letters(struct text *text, unsigned letters) {
     add(text, " ");
     for (int i = 0; i < 9; i++)
         if (letters >> i & 1)
@@ -77,18 +74,18 @@ static void add_letters(struct text *text, uint64_t letters) {
 
 void describe(char *line, size_t room, uint32_t answer, const uint8_t *report) {
     struct text text = {line, room};
-    uint8_t class = report[KHL_REPORT_CLASS];
+    enum khl_class class = khl_report_class(report);
     add(&text, "%" PRIu32 " %s", answer, answer_words(answer));
     if (answer == KHL_ERROR)
-        add_letters(&text, number_at(report + KHL_REPORT_LETTERS, 2));
+        add_letters(&text, khl_report_letters(report));
     if (class != KHL_CLASS_NONE)
         add(&text, ": %s", class_word(class));
     if (class == KHL_CLASS_RSI)
-        add(&text, " for %s", service_word(report[KHL_REPORT_SERVICE]));
+        add(&text, " for %s", service_word(khl_report_service(report)));
     if (class == KHL_CLASS_ESM)
-        add_letters(&text, number_at(report + KHL_REPORT_LETTERS, 2));
-    if (report[KHL_REPORT_IV_PRESENT])
-        add(&text, ", IV %016" PRIX64, number_at(report + KHL_REPORT_IV, 8));
-    if (report[KHL_REPORT_DATE_PRESENT])
-        add(&text, ", date %.*s", KHL_DATE, (const char *)report + KHL_REPORT_DATE);
+        add_letters(&text, khl_report_letters(report));
+    if (khl_report_iv_present(report))
+        add(&text, ", IV %016" PRIX64, khl_number(khl_report_iv(report), KHL_KEY));
+    if (khl_report_date_present(report))
+        add(&text, ", date %.*s", KHL_DATE, (const char *)khl_report_date(report));
 }

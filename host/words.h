@@ -5,9 +5,11 @@
 #include <stddef.h>
 #include <stdint.h>
 
+#include "khlongsit.h"
+
 const char *answer_words(uint32_t answer);
-const char *phase_word(uint8_t phase);
-const char *form_word(uint8_t form);
+const char *phase_word(enum khl_phase phase);
+const char *form_word(enum khl_form form);
 
 /* What a call of the line gave, in one line: the answer, its words, and what the report tells besides; cut to the room.
  */

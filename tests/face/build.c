@@ -1,7 +1,6 @@
 /* Build a KSM and build an RSI: the messages, byte for byte, and what becomes of the table. */
 #include <string.h>
 
-#include "../../host/bytes.h"
 #include "call.h"
 #include "check.h"
 #include "tests.h"
@@ -21,22 +20,14 @@ static void make_mill(struct image *image, enum form form, enum khl_phase phase)
     put_expected(harbor, 9);
 }
 
-static void put_asked(uint8_t *asked, uint64_t key, unsigned flags, const char *name) {
-    put_number(asked + KHL_ASKED_KEY, 8, key);
-    asked[KHL_ASKED_FLAGS] = (uint8_t)flags;
-    put_name(asked + KHL_ASKED_NAME, name);
-}
-
 /* two keys, an IV and a date: a good request from which the tests below depart */
 static void make_request(uint8_t *request) {
     memset(request, 0, KHL_REQUEST);
-    request[KHL_REQUEST_COUNT] = 2;
-    put_asked(request + KHL_REQUEST_FIRST, ONE, KHL_FLAG_P | KHL_FLAG_IDK1, "K1");
-    put_asked(request + KHL_REQUEST_SECOND, TWO, 0, "");
-    request[KHL_REQUEST_IV_KIND] = KHL_IV_ENCIPHERED;
-    put_number(request + KHL_REQUEST_IV, 8, IV_VALUE);
-    request[KHL_REQUEST_DATED] = 1;
-    memcpy(request + KHL_REQUEST_DATE, DATE, KHL_DATE);
+    khl_request_put_count(request, 2);
+    put_asked(request, 0, ONE, KHL_FLAG_P | KHL_FLAG_IDK1, "K1");
+    put_asked(request, 1, TWO, 0, "");
+    put_iv(request, KHL_IV_ENCIPHERED, IV_VALUE);
+    put_date(request, DATE);
 }
 
 /* the subfields behind a KD for these flags */
@@ -56,13 +47,13 @@ static void key_message(enum form form, int keys, unsigned flags, int iv_kind, i
     make_mill(&image, form, phase);
     wanted = image;
     uint8_t *harbor = record_of(&wanted, "HARBOR");
-    uint32_t next = (uint32_t)number_at(harbor + KHL_RECORD_NEXT, 4);
+    uint32_t next = khl_record_next(harbor);
     make_request(request);
-    request[KHL_REQUEST_COUNT] = (uint8_t)keys;
-    put_asked(request + KHL_REQUEST_FIRST, ONE, flags, "NAME1");
-    put_asked(request + KHL_REQUEST_SECOND, TWO, second, "NAME1");
-    request[KHL_REQUEST_IV_KIND] = (uint8_t)iv_kind;
-    request[KHL_REQUEST_DATED] = (uint8_t)dated;
+    khl_request_put_count(request, keys);
+    put_asked(request, 0, ONE, flags, "NAME1");
+    put_asked(request, 1, TWO, second, "NAME1");
+    khl_request_put_iv_kind(request, (enum khl_iv_kind)iv_kind);
+    khl_request_put_dated(request, dated);
 
     begin(&text, "KSM", "HARBOR", "MILL");
     add_kd(&text, harbor, next, ONE, subfields(flags));
@@ -73,10 +64,10 @@ static void key_message(enum form form, int keys, unsigned flags, int iv_kind, i
             (unsigned long long)(iv_kind == KHL_IV_PLAIN ? IV_VALUE : khl_test_encipher(last_key, IV_VALUE)));
     add(&text, dated ? "EDK/" DATE " CTP/%u " : "CTP/%u ", (unsigned)next);
     end_with_mac(&text, mac_key, 0);
-    put_number(harbor + KHL_RECORD_NEXT, 4, next + 1);
-    harbor[KHL_RECORD_PHASE] = KHL_PHASE_WAITING;
-    put_set(harbor + KHL_RECORD_OUTGOING, keys, ONE, flags & KHL_FLAG_IDK1 ? "NAME1" : NULL, TWO,
-            second & KHL_FLAG_IDK1 ? "NAME1" : NULL);
+    put_next(harbor, next + 1);
+    put_phase(harbor, KHL_PHASE_WAITING);
+    put_outgoing(harbor, keys, ONE, flags & KHL_FLAG_IDK1 ? "NAME1" : NULL, TWO,
+                 second & KHL_FLAG_IDK1 ? "NAME1" : NULL);
 
     trying("build a KSM, form %d, %d keys, flags %u, IV kind %d, dated %d, phase %d", form, keys, flags, iv_kind, dated,
            phase);
@@ -102,10 +93,10 @@ static void not_judged(void) {
     struct image image;
     uint8_t request[KHL_REQUEST];
     memset(request, 0xFF, sizeof request);
-    request[KHL_REQUEST_COUNT] = 1;
-    request[KHL_REQUEST_FIRST + KHL_ASKED_FLAGS] = 0;
-    request[KHL_REQUEST_IV_KIND] = KHL_IV_NONE;
-    request[KHL_REQUEST_DATED] = 0;
+    khl_request_put_count(request, 1);
+    khl_request_put_flags(request, 0, 0);
+    khl_request_put_iv_kind(request, KHL_IV_NONE);
+    khl_request_put_dated(request, 0);
     make_mill(&image, SINGLE, KHL_PHASE_IDLE);
     trying("a request whose unused parts are nonsense");
     answers(build_ksm(&image, "HARBOR", request, sizeof request, KHL_ROOM), KHL_DONE);
@@ -129,6 +120,7 @@ static void malformed(void) {
         {KHL_REQUEST_FIRST + KHL_ASKED_NAME + 15, 0, "a name filled with a zero"},
         {KHL_REQUEST_SECOND + KHL_ASKED_FLAGS, KHL_FLAG_IDK1, "a missing name to be written"},
         {KHL_REQUEST_IV_KIND, 3, "an IV kind that is none"},
+        {KHL_REQUEST_IV_KIND, 255, "an IV kind far above 2"},
         {KHL_REQUEST_DATED, 2, "a date flag that is none"},
         {KHL_REQUEST_DATE, 'A', "a date with a letter"},
         {KHL_REQUEST_DATE + 1, '5', "29 February 1985"},
@@ -144,14 +136,14 @@ static void malformed(void) {
         answers(build_ksm(&image, "HARBOR", request, KHL_REQUEST, KHL_ROOM), KHL_BAD_REQUEST);
     }
     make_request(request);
-    put_number(request + KHL_REQUEST_SECOND, 8, ONE);
+    khl_put_number(khl_request_key(request, 1), KHL_KEY, ONE);
     trying("two equal keys");
     answers(build_ksm(&image, "HARBOR", request, KHL_REQUEST, KHL_ROOM), KHL_BAD_REQUEST);
     for (size_t length = 0; length <= KHL_REQUEST + 1; length += length < 2 || length >= 72 ? 1 : 70) {
         if (length == KHL_REQUEST)
             continue;
         make_request(request);
-        request[KHL_REQUEST_FIRST] = 0x03;
+        khl_request_key(request, 0)[0] = 0x03;
         trying("a request of %zu bytes, its first key marked P and even", length);
         answers(build_ksm(&image, "HARBOR", request, length, KHL_ROOM), KHL_BAD_REQUEST);
     }
@@ -165,12 +157,11 @@ static void parity(void) {
     before = image;
     for (int keys = 0; keys <= 3; keys++)
         for (int which = 0; which < 2; which++) {
-            uint8_t *asked = request + (which == 0 ? KHL_REQUEST_FIRST : KHL_REQUEST_SECOND);
             make_request(request);
-            put_asked(asked, 0x03, KHL_FLAG_P | 0xF8, "bad name");
-            request[KHL_REQUEST_COUNT] = (uint8_t)keys;
-            request[KHL_REQUEST_IV_KIND] = 9;
-            request[KHL_REQUEST_DATED] = 9;
+            put_asked(request, which, 0x03, KHL_FLAG_P | 0xF8, "bad name");
+            khl_request_put_count(request, keys);
+            khl_request_put_iv_kind(request, (enum khl_iv_kind)9);
+            khl_request_put_dated(request, 9);
             trying("%d keys, the %s one marked P, even, and all else bad", keys, which == 0 ? "first" : "second");
             answers(build_ksm(&image, "HARBOR", request, KHL_REQUEST, KHL_ROOM),
                     keys == 0 || keys == 3 || which >= keys ? KHL_BAD_REQUEST : KHL_BAD_PARITY);
@@ -185,11 +176,11 @@ static void longest(void) {
     static const char name[] = "ABCDEFGHIJKLMNOP";
     make_card(&image, "PONMLKJIHGFEDCBA");
     uint8_t *record = add_partner(&image, name, PAIR);
-    put_name(record + KHL_RECORD_NAME, name);
+    khl_put_name(record + KHL_RECORD_NAME, name);
     put_sending(record, 99999998, KHL_PHASE_BROKEN, 0);
     make_request(request);
-    put_asked(request + KHL_REQUEST_FIRST, ONE, 7, name);
-    put_asked(request + KHL_REQUEST_SECOND, 0xFEDCBA9876543210, 7, name);
+    put_asked(request, 0, ONE, 7, name);
+    put_asked(request, 1, 0xFEDCBA9876543210, 7, name);
     trying("the longest KSM");
     answers(build_ksm(&image, name, request, KHL_REQUEST, KHL_ROOM), KHL_DONE);
     holds(reply_length == KHL_KSM_MOST, "it has %zu bytes", reply_length);

@@ -4,7 +4,6 @@
 #include <stdio.h>
 #include <string.h>
 
-#include "../../host/bytes.h"
 #include "check.h"
 #include "lend.h"
 
@@ -26,26 +25,33 @@ static void report_in_order(enum call call, uint32_t answer) {
         from = KHL_REPORT_ZERO;
     same("a part of the report that has to be zero", report + from, zeros + from, KHL_REPORT - from);
     if (call != RECEIVE)
-        holds(number_at(report + KHL_REPORT_LETTERS, 2) == 0, "letters without an error");
+        holds(khl_report_letters(report) == 0, "letters without an error");
     holds(changed_only(REPORT, 0, KHL_REPORT), "bytes beside the report were written");
+}
+
+/* Whether the bytes from one place to another stand in a record, behind identity, key name and top key. */
+static int within(const uint8_t *record, const uint8_t *from, const uint8_t *to) {
+    return record != NULL && from >= record + KHL_RECORD_NEXT && to <= record + KHL_RECORD;
 }
 
 /* A changed image differs in one record alone, and there not in identity, key name and top key. */
 static void image_in_order(const uint8_t *now, size_t length, uint32_t answer) {
     const uint8_t *before = as_lent(IMAGE);
-    size_t first = 0, last = length, at = KHL_IMAGE_SLOTS;
+    size_t first = 0, last = length;
+    int slot = 0;
     holds(changed_only(IMAGE, 0, length), "bytes beside the image were written");
     while (first < length && now[first] == before[first])
         first++;
     if (first == length)
         return;
     holds(answer == KHL_DONE, "the image changed with answer %" PRIu32, answer);
+    if (answer != KHL_DONE)
+        return;
     while (now[last - 1] == before[last - 1])
         last--;
-    for (size_t step; (step = before[at] == KHL_KIND_PARTNER ? 1 + KHL_RECORD : 1), at + step <= first;)
-        at += step;
-    holds(before[at] == KHL_KIND_PARTNER && first >= at + 1 + KHL_RECORD_NEXT && last <= at + 1 + KHL_RECORD,
-          "the image changed in bytes %zu to %zu", first, last);
+    while (slot < KHL_PARTNERS && !within(khl_image_record(before, slot), before + first, before + last))
+        slot++;
+    holds(slot < KHL_PARTNERS, "the image changed in bytes %zu to %zu", first, last);
 }
 
 /* Holds all that; `written` is the buffer for a reply or a new image, or ROLES where there is none. */
@@ -58,7 +64,7 @@ static uint32_t after(enum call call, uint32_t answer, const uint8_t *lent_repor
         given[call][answer]++;
     for (enum role role = TEXT; role <= SERVICE; role++)
         holds(changed_only(role, 0, 0), "a lent text, name, key or request was written");
-    reply_length = number_at(report + KHL_REPORT_LENGTH, 2);
+    reply_length = khl_report_length(report);
     if (written == ROLES) {
         holds(reply_length == 0, "a length without a buffer");
         return answer;
@@ -169,14 +175,14 @@ void answers(uint32_t answer, uint32_t wanted) {
 void reports(unsigned letters, size_t length, enum khl_class class_read, enum khl_service service, const uint64_t *iv,
              const char *date) {
     uint8_t wanted[KHL_REPORT] = {0};
-    put_number(wanted + KHL_REPORT_LETTERS, 2, letters);
-    put_number(wanted + KHL_REPORT_LENGTH, 2, length);
+    khl_put_number(wanted + KHL_REPORT_LETTERS, 2, letters);
+    khl_put_number(wanted + KHL_REPORT_LENGTH, 2, length);
     wanted[KHL_REPORT_CLASS] = (uint8_t)class_read;
     wanted[KHL_REPORT_SERVICE] = (uint8_t)service;
     wanted[KHL_REPORT_IV_PRESENT] = iv != NULL;
     wanted[KHL_REPORT_DATE_PRESENT] = date != NULL;
     if (iv != NULL)
-        put_number(wanted + KHL_REPORT_IV, 8, *iv);
+        khl_put_number(wanted + KHL_REPORT_IV, 8, *iv);
     if (date != NULL)
         memcpy(wanted + KHL_REPORT_DATE, date, KHL_DATE);
     same("the report", report, wanted, KHL_REPORT);

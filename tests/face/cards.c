@@ -5,13 +5,11 @@
 #include <stdio.h>
 #include <string.h>
 
-#include "../../host/bytes.h"
-
 void make_card(struct image *image, const char *own) {
     memset(image, 0, sizeof *image);
     image->length = KHL_IMAGE_LEAST;
     image->bytes[0] = KHL_KIND_OWN;
-    put_name(image->bytes + KHL_IMAGE_OWN, own);
+    khl_put_name(image->bytes + KHL_IMAGE_OWN, own);
 }
 
 uint8_t *add_partner(struct image *image, const char *identity, enum form form) {
@@ -23,13 +21,11 @@ uint8_t *add_partner(struct image *image, const char *identity, enum form form) 
     image->length += KHL_RECORD;
     image->bytes[at] = KHL_KIND_PARTNER;
     memset(record, 0, KHL_RECORD);
-    put_name(record + KHL_RECORD_IDENTITY, identity);
-    put_name(record + KHL_RECORD_NAME, TOP_NAME);
-    record[KHL_RECORD_FORM] = (uint8_t)form;
-    put_number(record + KHL_RECORD_TOP, 8, LEFT);
-    put_number(record + KHL_RECORD_TOP + 8, 8, form == PAIR ? RIGHT : 0);
-    put_number(record + KHL_RECORD_NEXT, 4, 1);
-    put_number(record + KHL_RECORD_EXPECTED, 4, 1);
+    khl_put_name(record + KHL_RECORD_IDENTITY, identity);
+    khl_put_name(record + KHL_RECORD_NAME, TOP_NAME);
+    put_top(record, form, LEFT, form == PAIR ? RIGHT : 0);
+    put_next(record, 1);
+    put_expected(record, 1);
     return record;
 }
 
@@ -43,39 +39,73 @@ void fill_table(struct image *image) {
 
 uint8_t *record_of(struct image *image, const char *identity) {
     uint8_t wanted[KHL_NAME];
-    put_name(wanted, identity);
-    for (size_t at = KHL_IMAGE_SLOTS; at < image->length; at++) {
-        if (image->bytes[at] != KHL_KIND_PARTNER)
-            continue;
-        if (memcmp(image->bytes + at + 1, wanted, KHL_NAME) == 0)
-            return image->bytes + at + 1;
-        at += KHL_RECORD;
+    khl_put_name(wanted, identity);
+    for (int slot = 0; slot < KHL_PARTNERS; slot++) {
+        const uint8_t *record = khl_image_record(image->bytes, slot);
+        if (record != NULL && memcmp(khl_record_identity(record), wanted, KHL_NAME) == 0)
+            return image->bytes + (record - image->bytes);
     }
     return NULL;
 }
 
-void put_set(uint8_t *set, int keys, uint64_t first, const char *first_name, uint64_t second, const char *second_name) {
-    memset(set, 0, KHL_RECORD - KHL_RECORD_INCOMING);
+void put_top(uint8_t *record, enum form form, uint64_t left, uint64_t right) {
+    record[KHL_RECORD_FORM] = (uint8_t)form;
+    khl_put_number(record + KHL_RECORD_TOP, 8, left);
+    khl_put_number(record + KHL_RECORD_TOP + 8, 8, right);
+}
+
+void put_next(uint8_t *record, uint32_t next) { khl_put_number(record + KHL_RECORD_NEXT, 4, next); }
+void put_phase(uint8_t *record, int phase) { record[KHL_RECORD_PHASE] = (uint8_t)phase; }
+
+static void put_set(uint8_t *set, int keys, uint64_t first, const char *first_name, uint64_t second,
+                    const char *second_name) {
+    memset(set, 0, KHL_SET);
     set[KHL_SET_COUNT] = (uint8_t)keys;
     if (keys > 0) {
-        put_number(set + KHL_SET_FIRST + KHL_PLACE_KEY, 8, first);
-        put_name(set + KHL_SET_FIRST + KHL_PLACE_NAME, first_name ? first_name : "");
+        khl_put_number(set + KHL_SET_FIRST + KHL_PLACE_KEY, 8, first);
+        khl_put_name(set + KHL_SET_FIRST + KHL_PLACE_NAME, first_name ? first_name : "");
     }
     if (keys > 1) {
-        put_number(set + KHL_SET_SECOND + KHL_PLACE_KEY, 8, second);
-        put_name(set + KHL_SET_SECOND + KHL_PLACE_NAME, second_name ? second_name : "");
+        khl_put_number(set + KHL_SET_SECOND + KHL_PLACE_KEY, 8, second);
+        khl_put_name(set + KHL_SET_SECOND + KHL_PLACE_NAME, second_name ? second_name : "");
     }
+}
+
+void put_outgoing(uint8_t *record, int keys, uint64_t first, const char *first_name, uint64_t second,
+                  const char *second_name) {
+    put_set(record + KHL_RECORD_OUTGOING, keys, first, first_name, second, second_name);
+}
+
+void put_incoming(uint8_t *record, int keys, uint64_t first, const char *first_name, uint64_t second,
+                  const char *second_name) {
+    put_set(record + KHL_RECORD_INCOMING, keys, first, first_name, second, second_name);
 }
 
 void put_sending(uint8_t *record, uint32_t next, enum khl_phase phase, int keys) {
-    put_number(record + KHL_RECORD_NEXT, 4, next);
-    record[KHL_RECORD_PHASE] = (uint8_t)phase;
-    put_set(record + KHL_RECORD_OUTGOING, keys, 0x1111111111111111, "SENT1", 0x2222222222222222, NULL);
+    put_next(record, next);
+    put_phase(record, phase);
+    put_outgoing(record, keys, 0x1111111111111111, "SENT1", 0x2222222222222222, NULL);
 }
 
 void put_expected(uint8_t *record, uint32_t expected) {
-    put_number(record + KHL_RECORD_EXPECTED, 4, expected);
-    put_set(record + KHL_RECORD_INCOMING, expected > 1, 0x3333333333333333, "TAKEN1", 0, NULL);
+    khl_put_number(record + KHL_RECORD_EXPECTED, 4, expected);
+    put_incoming(record, expected > 1, 0x3333333333333333, "TAKEN1", 0, NULL);
+}
+
+void put_asked(uint8_t *request, int place, uint64_t key, unsigned flags, const char *name) {
+    khl_put_number(khl_request_key(request, place), KHL_KEY, key);
+    khl_request_put_flags(request, place, flags);
+    khl_put_name(khl_request_name(request, place), name);
+}
+
+void put_iv(uint8_t *request, enum khl_iv_kind kind, uint64_t iv) {
+    khl_request_put_iv_kind(request, kind);
+    khl_put_number(khl_request_iv(request), KHL_KEY, iv);
+}
+
+void put_date(uint8_t *request, const char *date) {
+    khl_request_put_dated(request, 1);
+    memcpy(khl_request_date(request), date, KHL_DATE);
 }
 
 void begin(struct text *text, const char *class_word, const char *rcv, const char *org) {
@@ -91,10 +121,10 @@ void add(struct text *text, const char *format, ...) {
 }
 
 void add_kd(struct text *text, const uint8_t *record, uint32_t count, uint64_t key, const char *subfields) {
-    uint64_t left = number_at(record + KHL_RECORD_TOP, 8) ^ count,
-             right = number_at(record + KHL_RECORD_TOP + 8, 8) ^ count;
+    const uint8_t *top = khl_record_top(record);
+    uint64_t left = khl_number(top, KHL_KEY) ^ count, right = khl_number(top + KHL_KEY, KHL_KEY) ^ count;
     uint64_t sealed = khl_test_encipher(left, key);
-    if (record[KHL_RECORD_FORM] == PAIR)
+    if (khl_record_form(record) == KHL_FORM_PAIR)
         sealed = khl_test_encipher(left, khl_test_decipher(right, sealed));
     add(text, "KD/%016" PRIX64 "%s ", sealed, subfields);
 }

@@ -31,14 +31,27 @@ void fill_table(struct image *image);
 /* A partner's record; null where there is none. */
 uint8_t *record_of(struct image *image, const char *identity);
 
-/* A key set with these keys and names; no name is a null pointer. */
-void put_set(uint8_t *set, int keys, uint64_t first, const char *first_name, uint64_t second, const char *second_name);
+/* Sets parts of a record. */
+void put_top(uint8_t *record, enum form form, uint64_t left, uint64_t right);
+void put_next(uint8_t *record, uint32_t next);
+void put_phase(uint8_t *record, int phase);
+
+/* Sets the keys that were sent or taken, and their names; no name is a null pointer. */
+void put_outgoing(uint8_t *record, int keys, uint64_t first, const char *first_name, uint64_t second,
+                  const char *second_name);
+void put_incoming(uint8_t *record, int keys, uint64_t first, const char *first_name, uint64_t second,
+                  const char *second_name);
 
 /* Sets the sending side of a record: with one or two keys waiting or confirmed. */
 void put_sending(uint8_t *record, uint32_t next, enum khl_phase phase, int keys);
 
 /* Sets the receiving side: with one key where something is expected. */
 void put_expected(uint8_t *record, uint32_t expected);
+
+/* Sets parts of a request: a key at place 0 or 1 with its flags and name, the IV with its kind, the date. */
+void put_asked(uint8_t *request, int place, uint64_t key, unsigned flags, const char *name);
+void put_iv(uint8_t *request, enum khl_iv_kind kind, uint64_t iv);
+void put_date(uint8_t *request, const char *date);
 
 /* A message that is being written. */
 struct text {

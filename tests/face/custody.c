@@ -2,7 +2,6 @@
 #include <stdio.h>
 #include <string.h>
 
-#include "../../host/bytes.h"
 #include "call.h"
 #include "check.h"
 #include "tests.h"
@@ -125,7 +124,7 @@ static void removes(void) {
     answers(take_out(&image, "P7", KHL_IMAGE_MOST, &made), KHL_DONE);
     image = made;
     answers(load(&image, "QUAY", TOP_NAME, pair, 16, KHL_IMAGE_MOST, &made), KHL_DONE);
-    holds(record_of(&made, "QUAY") == made.bytes + KHL_IMAGE_SLOTS + 6 * 157 + 1, "not the lowest free slot");
+    holds(record_of(&made, "QUAY") == khl_image_record(made.bytes, 6), "not the lowest free slot");
     trying("remove with a byte of room too few");
     answers(take_out(&image, "P1", KHL_IMAGE_MOST - 1, &made), KHL_NO_ROOM);
 }

@@ -1,7 +1,6 @@
 /* Two cards exchange keys from end to end, held to texts that were made with an independent library (OpenSSL's DES). */
 #include <string.h>
 
-#include "../../host/bytes.h"
 #include "call.h"
 #include "check.h"
 #include "tests.h"
@@ -38,17 +37,11 @@ static void load_both(void) {
 
 static void make_request(uint8_t *request) {
     memset(request, 0, KHL_REQUEST);
-    request[KHL_REQUEST_COUNT] = 2;
-    put_number(request + KHL_REQUEST_FIRST + KHL_ASKED_KEY, 8, ONE);
-    request[KHL_REQUEST_FIRST + KHL_ASKED_FLAGS] = KHL_FLAG_P | KHL_FLAG_IDK1 | KHL_FLAG_IDK2;
-    put_name(request + KHL_REQUEST_FIRST + KHL_ASKED_NAME, "AUTH1");
-    put_number(request + KHL_REQUEST_SECOND + KHL_ASKED_KEY, 8, TWO);
-    request[KHL_REQUEST_SECOND + KHL_ASKED_FLAGS] = KHL_FLAG_IDK1;
-    put_name(request + KHL_REQUEST_SECOND + KHL_ASKED_NAME, "DATA1");
-    request[KHL_REQUEST_IV_KIND] = KHL_IV_ENCIPHERED;
-    put_number(request + KHL_REQUEST_IV, 8, IV_VALUE);
-    request[KHL_REQUEST_DATED] = 1;
-    memcpy(request + KHL_REQUEST_DATE, DATE, KHL_DATE);
+    khl_request_put_count(request, 2);
+    put_asked(request, 0, ONE, KHL_FLAG_P | KHL_FLAG_IDK1 | KHL_FLAG_IDK2, "AUTH1");
+    put_asked(request, 1, TWO, KHL_FLAG_IDK1, "DATA1");
+    put_iv(request, KHL_IV_ENCIPHERED, IV_VALUE);
+    put_date(request, DATE);
 }
 
 static void build(const char *wanted) {
@@ -70,11 +63,11 @@ static void arrives(struct image *at, const char *text, uint32_t answer, const c
 static void stand(enum khl_phase mill_phase, uint32_t mill_next, uint32_t mill_expected, enum khl_phase harbor_phase,
                   uint32_t harbor_next, uint32_t harbor_expected) {
     const uint8_t *a = record_of(&mill, "HARBOR"), *b = record_of(&harbor, "MILL");
-    holds(a[KHL_RECORD_PHASE] == mill_phase && number_at(a + KHL_RECORD_NEXT, 4) == mill_next &&
-              number_at(a + KHL_RECORD_EXPECTED, 4) == mill_expected,
+    holds(khl_record_phase(a) == mill_phase && khl_record_next(a) == mill_next &&
+              khl_record_expected(a) == mill_expected,
           "MILL stands wrong");
-    holds(b[KHL_RECORD_PHASE] == harbor_phase && number_at(b + KHL_RECORD_NEXT, 4) == harbor_next &&
-              number_at(b + KHL_RECORD_EXPECTED, 4) == harbor_expected,
+    holds(khl_record_phase(b) == harbor_phase && khl_record_next(b) == harbor_next &&
+              khl_record_expected(b) == harbor_expected,
           "HARBOR stands wrong");
 }
 
@@ -85,8 +78,8 @@ static void keys_agree(const struct image *from, const char *to, const struct im
     answers(ask(from, to, KHL_ROOM), KHL_DONE);
     memcpy(sent, reply, KHL_RECORD);
     answers(ask(at, of, KHL_ROOM), KHL_DONE);
-    holds(sent[KHL_RECORD_PHASE] == KHL_PHASE_CONFIRMED, "not confirmed");
-    same("the keys", sent + KHL_RECORD_OUTGOING, reply + KHL_RECORD_INCOMING, KHL_RECORD - KHL_RECORD_INCOMING);
+    holds(khl_record_phase(sent) == KHL_PHASE_CONFIRMED, "not confirmed");
+    same("the keys", khl_record_outgoing(sent), khl_record_incoming(reply), KHL_SET);
 }
 
 void test_exchange(void) {
@@ -113,7 +106,7 @@ void test_exchange(void) {
     keys_agree(&mill, "HARBOR", &harbor, "MILL");
 
     /* the other way, one key without ornament */
-    put_number(one_key + KHL_REQUEST_FIRST, 8, TWO);
+    put_asked(one_key, 0, TWO, 0, "");
     trying("HARBOR builds a KSM");
     answers(build_ksm(&harbor, "MILL", one_key, sizeof one_key, KHL_ROOM), KHL_DONE);
     replies(ksm_back, strlen(ksm_back));

@@ -19,6 +19,7 @@ static void test_all(void) {
 }
 
 int main(void) {
+    test_parts();
     lend_at(BEFORE_A_PAGE);
     test_all();
     lend_at(BEHIND_A_PAGE);

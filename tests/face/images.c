@@ -3,7 +3,6 @@
 #include <stdio.h>
 #include <string.h>
 
-#include "../../host/bytes.h"
 #include "call.h"
 #include "check.h"
 #include "tests.h"
@@ -124,11 +123,11 @@ static void broken_images(void) {
     trying("an image without an own identity");
     every_call_refuses(&image);
     image = whole;
-    put_name(record_of(&image, "QUAY"), "HARBOR");
+    khl_put_name(record_of(&image, "QUAY"), "HARBOR");
     trying("a partner with our own identity");
     every_call_refuses(&image);
     image = whole;
-    put_name(record_of(&image, "QUAY"), "MILL");
+    khl_put_name(record_of(&image, "QUAY"), "MILL");
     trying("two partners with one identity");
     every_call_refuses(&image);
 }
@@ -146,7 +145,7 @@ static void full_images(void) {
         every_call_refuses(&image);
     }
     image.length = KHL_IMAGE_MOST;
-    put_name(record_of(&image, "P64"), "P1");
+    khl_put_name(record_of(&image, "P64"), "P1");
     trying("a full image with the identity of the first partner in the last slot");
     every_call_refuses(&image);
 }
@@ -156,12 +155,11 @@ static void odd_but_legal(void) {
     struct image image;
     make_harbor(&image);
     uint8_t *mill = record_of(&image, "MILL");
-    put_number(mill + KHL_RECORD_TOP, 8, LEFT);
-    put_number(mill + KHL_RECORD_TOP + 8, 8, LEFT);
-    put_number(mill + KHL_RECORD_NEXT, 4, KHL_COUNT_LAST);
-    put_number(mill + KHL_RECORD_EXPECTED, 4, KHL_COUNT_LAST);
-    put_set(mill + KHL_RECORD_OUTGOING, 2, 0, NULL, 0, NULL);
-    put_set(mill + KHL_RECORD_INCOMING, 2, 2, "ABCDEFGHIJKLMNOP", 2, "0");
+    put_top(mill, PAIR, LEFT, LEFT);
+    put_next(mill, KHL_COUNT_LAST);
+    put_expected(mill, KHL_COUNT_LAST);
+    put_outgoing(mill, 2, 0, NULL, 0, NULL);
+    put_incoming(mill, 2, 2, "ABCDEFGHIJKLMNOP", 2, "0");
     trying("equal halves, last counts, equal and even data keys");
     answers(ask(&image, "MILL", KHL_ROOM), KHL_DONE);
 }

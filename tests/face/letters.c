@@ -3,7 +3,6 @@
 #include <stdio.h>
 #include <string.h>
 
-#include "../../host/bytes.h"
 #include "call.h"
 #include "check.h"
 #include "tests.h"
@@ -102,7 +101,7 @@ static void refused(unsigned faults, unsigned errors) {
     make_harbor(&image);
     write_ksm(&text, &image, errors, faults);
     if (faults & ILLEGAL)
-        record_of(&image, "ABBEY")[KHL_RECORD_PHASE] = 4;
+        put_phase(record_of(&image, "ABBEY"), 4);
     while (!(faults >> first & 1))
         first++;
     trying("a KSM with the faults %02X and the errors %02X", faults, errors);

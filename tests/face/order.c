@@ -2,7 +2,6 @@
  * What receive tests is in letters.c. */
 #include <string.h>
 
-#include "../../host/bytes.h"
 #include "call.h"
 #include "check.h"
 #include "tests.h"
@@ -52,9 +51,8 @@ static void order_of_build_ksm(void) {
     for (unsigned conditions = 0; conditions < 1u << 7; conditions++) {
         struct image image;
         uint8_t request[KHL_REQUEST] = {1};
-        put_number(request + KHL_REQUEST_FIRST, 8, has(conditions, order, 11) ? 0 : 0x0101010101010101);
-        request[KHL_REQUEST_FIRST + KHL_ASKED_FLAGS] = KHL_FLAG_P;
-        request[KHL_REQUEST_IV_KIND] = has(conditions, order, 12) ? 3 : 0;
+        put_asked(request, 0, has(conditions, order, 11) ? 0 : 0x0101010101010101, KHL_FLAG_P, "");
+        put_iv(request, (enum khl_iv_kind)(has(conditions, order, 12) ? 3 : 0), 0);
         make_image(&image, conditions, order);
         trying("build a KSM with the conditions %02X", conditions);
         answers(build_ksm(&image, partner_for(conditions, order), request, sizeof request,

@@ -1,7 +1,6 @@
 /* Receive: every class, its reply, its report, and what becomes of the table. */
 #include <string.h>
 
-#include "../../host/bytes.h"
 #include "call.h"
 #include "check.h"
 #include "tests.h"
@@ -88,8 +87,8 @@ static void key_message(enum form form, int keys, char iv_kind, const char *date
     end_with_mac(&text, mac_key, 0);
     begin(&confirms, "RSM", "MILL", "HARBOR");
     end_with_mac(&confirms, mac_key, 0);
-    put_number(mill + KHL_RECORD_EXPECTED, 4, count + 1);
-    put_set(mill + KHL_RECORD_INCOMING, keys, ONE, "K1", TWO, "P");
+    put_expected(mill, count + 1);
+    put_incoming(mill, keys, ONE, "K1", TWO, "P");
 
     trying("a KSM, form %d, %d keys, IV %c, date %s, count %u", form, keys, iv_kind, date ? date : "-",
            (unsigned)count);
@@ -100,7 +99,7 @@ static void key_message(enum form form, int keys, char iv_kind, const char *date
 
     trying("the same KSM once more");
     answers(receive(&image, text.bytes, text.length, KHL_ROOM), KHL_ERROR);
-    holds(number_at(report, 2) == KHL_LETTER_P, "letters %u", (unsigned)number_at(report, 2));
+    holds(khl_report_letters(report) == KHL_LETTER_P, "letters %u", khl_report_letters(report));
     becomes(&image, &wanted);
 }
 
@@ -147,7 +146,7 @@ static void confirmations(void) {
     trying("an RSM");
     begin(&text, "RSM", "HARBOR", "MILL");
     end_with_mac(&text, 0x1111111111111111 ^ 0x2222222222222222, 0);
-    record_of(&wanted, "MILL")[KHL_RECORD_PHASE] = KHL_PHASE_CONFIRMED;
+    put_phase(record_of(&wanted, "MILL"), KHL_PHASE_CONFIRMED);
     answers(receive(&image, text.bytes, text.length, KHL_ROOM), KHL_DONE);
     reports(0, 0, KHL_CLASS_RSM, KHL_SERVICE_NONE, NULL, NULL);
     becomes(&image, &wanted);

@@ -1,16 +1,15 @@
 /* How deep each call goes: it runs on a painted stack of 64 KiB, with a full table, in each of its longest ways; what
- * is no longer paint was used. The goal is 4,096 bytes. */
+ * is no longer paint was used. The goal is KHL_STACK bytes. */
 #define _DEFAULT_SOURCE
 #include <stdio.h>
 #include <string.h>
 #include <ucontext.h>
 
-#include "../../host/bytes.h"
 #include "cards.h"
 #include "check.h"
 #include "tests.h"
 
-enum { STACK = 64 * 1024, MOST = 4096, CASES = 6 };
+enum { STACK = 64 * 1024, CASES = 6 };
 
 static uint8_t stack[STACK];
 static ucontext_t here, there;
@@ -93,9 +92,8 @@ static void make_full(void) {
     make_card(&full, "OURS");
     fill_table(&full);
     uint8_t *record = record_of(&full, "P64");
-    put_name(record, (const char *)last);
-    record[KHL_RECORD_FORM] = PAIR;
-    put_number(record + KHL_RECORD_TOP + 8, 8, RIGHT);
+    khl_put_name(record, (const char *)last);
+    put_top(record, PAIR, LEFT, RIGHT);
     put_sending(record, 99999990, KHL_PHASE_WAITING, 2);
     put_expected(record, 99999990);
     write_ksm(&texts[0], record, 99999998, 1);
@@ -113,7 +111,7 @@ static void make_full(void) {
 static void row(const char *name, size_t bytes) {
     printf("khl_%-10s %6zu\n", name, bytes);
     trying("the stack of khl_%s", name);
-    holds(bytes <= MOST, "%zu bytes, more than %d", bytes, MOST);
+    holds(bytes <= KHL_STACK, "%zu bytes, more than %d", bytes, KHL_STACK);
 }
 
 void test_stack(void) {
@@ -129,16 +127,11 @@ void test_stack(void) {
     row("receive", most);
     put_sending(record_of(&full, (const char *)last), 99999998, KHL_PHASE_CONFIRMED, 2);
     memset(request, 0, sizeof request);
-    request[KHL_REQUEST_COUNT] = 2;
-    for (int i = 0; i < 2; i++) {
-        uint8_t *asked = request + (i == 0 ? KHL_REQUEST_FIRST : KHL_REQUEST_SECOND);
-        put_number(asked, 8, i == 0 ? 0x133457799BBCDFF1 : 0x0123456789ABCDEF);
-        asked[KHL_ASKED_FLAGS] = 7;
-        put_name(asked + KHL_ASKED_NAME, "ABCDEFGHIJKLMNOP");
-    }
-    request[KHL_REQUEST_IV_KIND] = KHL_IV_ENCIPHERED;
-    request[KHL_REQUEST_DATED] = 1;
-    memcpy(request + KHL_REQUEST_DATE, "840229235959", KHL_DATE);
+    khl_request_put_count(request, 2);
+    put_asked(request, 0, 0x133457799BBCDFF1, 7, "ABCDEFGHIJKLMNOP");
+    put_asked(request, 1, 0x0123456789ABCDEF, 7, "ABCDEFGHIJKLMNOP");
+    put_iv(request, KHL_IV_ENCIPHERED, 0);
+    put_date(request, "840229235959");
     row("build_ksm", depth(call_build_ksm, KHL_DONE, "build_ksm"));
     row("build_rsi", depth(call_build_rsi, KHL_DONE, "build_rsi"));
     row("ask", depth(call_ask, KHL_DONE, "ask"));

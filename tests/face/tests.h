@@ -2,6 +2,7 @@
 #ifndef FACE_TESTS_H
 #define FACE_TESTS_H
 
+void test_parts(void);    /* parts.c: the header's accessors, at bytes counted by hand */
 void test_cipher(void);   /* cipher.c: the bare cipher and MAC on published answers */
 void test_receive(void);  /* receive.c: every class, its replies, reports and changes */
 void test_letters(void);  /* letters.c: a KSM in every combination of errors, and behind every earlier answer */

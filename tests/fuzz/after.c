@@ -5,7 +5,6 @@
 #include <stdlib.h>
 #include <string.h>
 
-#include "../../host/bytes.h"
 #include "finish.h"
 #include "must.h"
 
@@ -39,8 +38,6 @@ static uint32_t count_of(struct slice text, const char *tag) {
     return (uint32_t)strtoul(digits, NULL, 10);
 }
 
-static uint32_t count_at(const uint8_t *record, int place) { return (uint32_t)number_at(record + place, 4); }
-
 /* whether two records are equal in the bytes from one place to another */
 static int equal(const uint8_t *left, const uint8_t *right, int from, int to) {
     return memcmp(left + from, right + from, (size_t)(to - from)) == 0;
@@ -49,8 +46,8 @@ static int equal(const uint8_t *left, const uint8_t *right, int from, int to) {
 /* ---- the changes of a record */
 
 static int wiped(const uint8_t *record) {
-    static const uint8_t none[KHL_RECORD_INCOMING - KHL_RECORD_OUTGOING];
-    return record[KHL_RECORD_PHASE] == KHL_PHASE_BROKEN && memcmp(record + KHL_RECORD_OUTGOING, none, sizeof none) == 0;
+    static const uint8_t none[KHL_SET];
+    return khl_record_phase(record) == KHL_PHASE_BROKEN && memcmp(khl_record_outgoing(record), none, sizeof none) == 0;
 }
 
 static void received(const uint8_t *old, const uint8_t *new, struct slice text, int class_read) {
@@ -58,22 +55,22 @@ static void received(const uint8_t *old, const uint8_t *new, struct slice text, 
     case KHL_CLASS_KSM:
         must(equal(old, new, 0, KHL_RECORD_EXPECTED) && equal(old, new, KHL_RECORD_PHASE, KHL_RECORD_INCOMING),
              "a KSM's changes");
-        must(count_of(text, " CTP/") >= count_at(old, KHL_RECORD_EXPECTED) &&
-                 count_of(text, " CTP/") + 1 == count_at(new, KHL_RECORD_EXPECTED),
-             "expected is %u after count %u", count_at(new, KHL_RECORD_EXPECTED), count_of(text, " CTP/"));
+        must(count_of(text, " CTP/") >= khl_record_expected(old) &&
+                 count_of(text, " CTP/") + 1 == khl_record_expected(new),
+             "expected is %u after count %u", khl_record_expected(new), count_of(text, " CTP/"));
         break;
     case KHL_CLASS_RSM:
-        must(old[KHL_RECORD_PHASE] == KHL_PHASE_WAITING && new[KHL_RECORD_PHASE] == KHL_PHASE_CONFIRMED,
+        must(khl_record_phase(old) == KHL_PHASE_WAITING && khl_record_phase(new) == KHL_PHASE_CONFIRMED,
              "an RSM's phases");
         must(equal(old, new, 0, KHL_RECORD_PHASE) && equal(old, new, KHL_RECORD_OUTGOING, KHL_RECORD),
              "an RSM's changes");
         break;
     case KHL_CLASS_ESM:
-        must(old[KHL_RECORD_PHASE] == KHL_PHASE_WAITING && wiped(new), "an ESM's phases");
+        must(khl_record_phase(old) == KHL_PHASE_WAITING && wiped(new), "an ESM's phases");
         must(equal(old, new, 0, KHL_RECORD_NEXT) && equal(old, new, KHL_RECORD_EXPECTED, KHL_RECORD_PHASE) &&
                  equal(old, new, KHL_RECORD_INCOMING, KHL_RECORD),
              "an ESM's changes");
-        must(count_at(new, KHL_RECORD_NEXT) >= count_at(old, KHL_RECORD_NEXT), "an ESM lowers the send count");
+        must(khl_record_next(new) >= khl_record_next(old), "an ESM lowers the send count");
         break;
     default: must(equal(old, new, 0, KHL_RECORD), "an RSI's changes");
     }
@@ -89,8 +86,7 @@ static void erred(const uint8_t *record, struct slice text, const struct outcome
     must(letters.length == strlen(wanted) && memcmp(letters.bytes, wanted, letters.length) == 0,
          "other letters than are told");
     if (o->letters & KHL_LETTER_P)
-        must(count_of(esm, " CTP/") == count_at(record, KHL_RECORD_EXPECTED) &&
-                 count_of(esm, " CTR/") == count_of(text, " CTP/"),
+        must(count_of(esm, " CTP/") == khl_record_expected(record) && count_of(esm, " CTR/") == count_of(text, " CTP/"),
              "made-up counts");
     else
         must(count_of(esm, " CTP/") == 0 && count_of(esm, " CTR/") == 0, "counts without a P");
@@ -100,13 +96,13 @@ static void built(const uint8_t *old, const uint8_t *new) {
     must(equal(old, new, 0, KHL_RECORD_NEXT) && equal(old, new, KHL_RECORD_EXPECTED, KHL_RECORD_PHASE) &&
              equal(old, new, KHL_RECORD_INCOMING, KHL_RECORD),
          "the changes of building");
-    must(old[KHL_RECORD_PHASE] != KHL_PHASE_WAITING && new[KHL_RECORD_PHASE] == KHL_PHASE_WAITING,
+    must(khl_record_phase(old) != KHL_PHASE_WAITING && khl_record_phase(new) == KHL_PHASE_WAITING,
          "the phases of building");
-    must(count_at(new, KHL_RECORD_NEXT) == count_at(old, KHL_RECORD_NEXT) + 1, "the send count of building");
+    must(khl_record_next(new) == khl_record_next(old) + 1, "the send count of building");
 }
 
 static void given_up(const uint8_t *old, const uint8_t *new) {
-    must(old[KHL_RECORD_PHASE] == KHL_PHASE_WAITING && wiped(new), "the phases of giving up");
+    must(khl_record_phase(old) == KHL_PHASE_WAITING && wiped(new), "the phases of giving up");
     must(equal(old, new, 0, KHL_RECORD_PHASE) && equal(old, new, KHL_RECORD_INCOMING, KHL_RECORD),
          "the changes of giving up");
 }
@@ -114,12 +110,12 @@ static void given_up(const uint8_t *old, const uint8_t *new) {
 /* ---- the partner's end */
 
 /* each KD is a key of the request, sealed as our own text would have it */
-static void sealed(const uint8_t *record, const struct outcome *o, const uint8_t *request) {
+static void sealed(const uint8_t *record, const struct outcome *o, uint8_t *request) {
     struct slice text = {o->written.bytes, o->length};
-    for (int i = 0; i < request[KHL_REQUEST_COUNT]; i++) {
+    for (int i = 0; i < khl_request_count(request); i++) {
         char digits[17];
         struct slice kd = contents_of(text, " KD/");
-        uint64_t key = number_at(request + (i == 0 ? KHL_REQUEST_FIRST : KHL_REQUEST_SECOND), KHL_KEY);
+        uint64_t key = khl_number(khl_request_key(request, i), KHL_KEY);
         snprintf(digits, sizeof digits, "%016" PRIX64, seal(record, count_of(text, " CTP/"), key));
         must(kd.length >= 16 && memcmp(kd.bytes, digits, 16) == 0, "a key is not sealed as it should be");
         text = (struct slice){kd.bytes, (size_t)(o->written.bytes + o->length - kd.bytes)};
@@ -127,38 +123,39 @@ static void sealed(const uint8_t *record, const struct outcome *o, const uint8_t
 }
 
 /* the partner is told the IV and the date that were asked for */
-static void told(const uint8_t *request) {
-    int iv = request[KHL_REQUEST_IV_KIND] != KHL_IV_NONE, date = request[KHL_REQUEST_DATED];
-    must(report[KHL_REPORT_IV_PRESENT] == iv && report[KHL_REPORT_DATE_PRESENT] == date,
+static void told(uint8_t *request) {
+    int iv = khl_request_iv_kind(request) != KHL_IV_NONE, date = khl_request_dated(request);
+    must(khl_report_iv_present(report) == iv && khl_report_date_present(report) == date,
          "an IV or date too many or too few");
-    must(!iv || memcmp(report + KHL_REPORT_IV, request + KHL_REQUEST_IV, KHL_KEY) == 0, "another IV");
-    must(!date || memcmp(report + KHL_REPORT_DATE, request + KHL_REQUEST_DATE, KHL_DATE) == 0, "another date");
+    must(!iv || memcmp(khl_report_iv(report), khl_request_iv(request), KHL_KEY) == 0, "another IV");
+    must(!date || memcmp(khl_report_date(report), khl_request_date(request), KHL_DATE) == 0, "another date");
 }
 
 /* A partner that has just loaded us takes our KSM, holds the very keys and names that we sent, and we take its RSM; the
  * same KSM once more is P. */
-static void exchanged(struct image *ours, const uint8_t *record, const struct outcome *o, const uint8_t *request) {
+static void exchanged(struct image *ours, const uint8_t *record, const struct outcome *o, const uint8_t *asked) {
     static struct image theirs;
-    struct slice us = {ours->bytes + KHL_IMAGE_OWN, (size_t)bare_length(ours->bytes + KHL_IMAGE_OWN)};
+    struct slice us = {khl_image_own(ours->bytes), khl_name_length(khl_image_own(ours->bytes))};
+    uint8_t request[KHL_REQUEST];
+    memcpy(request, asked, sizeof request);
     sealed(record, o, request);
     make_partner(&theirs, ours, record);
     trying("our KSM at the partner");
-    must(receive(&theirs, o->written.bytes, o->length) == KHL_DONE && report[KHL_REPORT_CLASS] == KHL_CLASS_KSM,
+    must(receive(&theirs, o->written.bytes, o->length) == KHL_DONE && khl_report_class(report) == KHL_CLASS_KSM,
          "it is not taken");
     told(request);
     const uint8_t *held = record_of(&theirs, us.bytes, us.length);
-    must(memcmp(held + KHL_RECORD_INCOMING, record + KHL_RECORD_OUTGOING, KHL_RECORD - KHL_RECORD_INCOMING) == 0,
-         "other keys are held");
-    must(count_at(held, KHL_RECORD_EXPECTED) == count_at(record, KHL_RECORD_NEXT), "expected is not our send count");
+    must(memcmp(khl_record_incoming(held), khl_record_outgoing(record), KHL_SET) == 0, "other keys are held");
+    must(khl_record_expected(held) == khl_record_next(record), "expected is not our send count");
     uint8_t confirmation[KHL_ROOM];
-    size_t length = number_at(report + KHL_REPORT_LENGTH, 2);
+    size_t length = khl_report_length(report);
     memcpy(confirmation, reply, length);
-    must(receive(&theirs, o->written.bytes, o->length) == KHL_ERROR && number_at(report, 2) == KHL_LETTER_P,
+    must(receive(&theirs, o->written.bytes, o->length) == KHL_ERROR && khl_report_letters(report) == KHL_LETTER_P,
          "it is taken twice");
     trying("the partner's RSM");
-    must(receive(ours, confirmation, length) == KHL_DONE && report[KHL_REPORT_CLASS] == KHL_CLASS_RSM,
+    must(receive(ours, confirmation, length) == KHL_DONE && khl_report_class(report) == KHL_CLASS_RSM,
          "it is not taken");
-    must(record[KHL_RECORD_PHASE] == KHL_PHASE_CONFIRMED, "it does not confirm");
+    must(khl_record_phase(record) == KHL_PHASE_CONFIRMED, "it does not confirm");
 }
 
 /* A partner that has just loaded us reads what we wrote: an RSI with this service, an RSM or ESM when nothing waits. */
@@ -180,9 +177,9 @@ static void made_image(const struct outcome *o, const struct input *input, struc
         return;
     static const uint8_t rest[KHL_RECORD - KHL_RECORD_NEXT] = {0, 0, 0, 1, 0, 0, 0, 1};
     struct slice name = input->slices[1], key = input->slices[2];
-    must(memcmp(reply + KHL_RECORD_NAME, name.bytes, name.length) == 0 &&
-             reply[KHL_RECORD_FORM] == key.length / KHL_KEY &&
-             memcmp(reply + KHL_RECORD_TOP, key.bytes, key.length) == 0,
+    must(memcmp(khl_record_name(reply), name.bytes, name.length) == 0 &&
+             khl_record_form(reply) == key.length / KHL_KEY &&
+             memcmp(khl_record_top(reply), key.bytes, key.length) == 0,
          "other than what was loaded");
     must(memcmp(reply + KHL_RECORD_NEXT, rest, sizeof rest) == 0, "a loaded entry that is not fresh");
 }
@@ -194,7 +191,7 @@ static void changed(const struct outcome *o, const struct input *input, const st
     uint8_t *was = record_of(&old, whom.bytes, whom.length), *is = record_of(&new, whom.bytes, whom.length);
     must(was != NULL && is != NULL, "a partner that is not in the table");
     if (o->answer == KHL_DONE && input->call == RECEIVE)
-        received(was, is, input->slices[0], o->report[KHL_REPORT_CLASS]);
+        received(was, is, input->slices[0], khl_report_class(o->report));
     else if (o->answer == KHL_DONE && input->call == BUILD_KSM)
         built(was, is);
     else if (o->answer == KHL_DONE && input->call == GIVE_UP)

@@ -2,7 +2,6 @@
 
 #include <string.h>
 
-#include "../../host/bytes.h"
 #include "lent.h"
 #include "must.h"
 
@@ -44,20 +43,21 @@ static int zero(const uint8_t *bytes, size_t length) {
 /* with 0 only receive tells more than a length, and what it tells belongs to the class */
 static void told_in_order(const struct outcome *o) {
     const uint8_t *r = o->report;
-    int class_read = r[KHL_REPORT_CLASS], iv = r[KHL_REPORT_IV_PRESENT], date = r[KHL_REPORT_DATE_PRESENT];
+    int class_read = khl_report_class(r), service = khl_report_service(r);
+    int iv = khl_report_iv_present(r), date = khl_report_date_present(r);
     must(class_read >= KHL_CLASS_RSI && class_read <= KHL_CLASS_ESM, "class %d", class_read);
-    must((r[KHL_REPORT_SERVICE] != 0) == (class_read == KHL_CLASS_RSI) &&
-             r[KHL_REPORT_SERVICE] <= KHL_SERVICE_PAIR_KD_IV,
-         "service %d of class %d", r[KHL_REPORT_SERVICE], class_read);
+    must((service != KHL_SERVICE_NONE) == (class_read == KHL_CLASS_RSI) && service <= KHL_SERVICE_PAIR_KD_IV,
+         "service %d of class %d", service, class_read);
     must((o->letters != 0) == (class_read == KHL_CLASS_ESM) && o->letters < 512, "letters %u of class %d", o->letters,
          class_read);
     must((o->length != 0) == (class_read == KHL_CLASS_KSM), "a reply of %zu bytes to class %d", o->length, class_read);
     must(iv <= (class_read == KHL_CLASS_KSM) && date <= (class_read == KHL_CLASS_KSM), "IV %d, date %d, class %d", iv,
          date, class_read);
-    must(iv || zero(r + KHL_REPORT_IV, KHL_KEY), "an IV that is not there");
-    for (int i = 0; i < KHL_DATE; i++)
-        must(date ? r[KHL_REPORT_DATE + i] >= '0' && r[KHL_REPORT_DATE + i] <= '9' : r[KHL_REPORT_DATE + i] == 0,
-             "a bad date");
+    must(iv || zero(khl_report_iv(r), KHL_KEY), "an IV that is not there");
+    for (int i = 0; i < KHL_DATE; i++) {
+        int digit = khl_report_date(r)[i];
+        must(date ? digit >= '0' && digit <= '9' : digit == 0, "a bad date");
+    }
     must(zero(r + KHL_REPORT_ZERO, KHL_REPORT - KHL_REPORT_ZERO), "the report's last bytes are not zero");
 }
 
@@ -81,11 +81,17 @@ static void report_in_order(const struct outcome *o, enum call call) {
     }
 }
 
+/* Whether the bytes from one place to another stand in a record, from the counts on. */
+static int within(const uint8_t *record, const uint8_t *from, const uint8_t *to) {
+    return record != NULL && from >= record + KHL_RECORD_NEXT && to <= record + KHL_RECORD;
+}
+
 /* Only receive, build a KSM and give up change the image, with answer 0, in one record, and there from the counts on.
  */
 static void image_in_order(const struct outcome *o, enum call call) {
     const uint8_t *before = as_lent(IMAGE), *now = o->image.bytes;
-    size_t length = o->image.length, first = 0, last = length, at = KHL_IMAGE_SLOTS, step;
+    size_t length = o->image.length, first = 0, last = length;
+    int slot = 0;
     must(changed_only(IMAGE, length), "a byte beside the image was written");
     while (first < length && now[first] == before[first])
         first++;
@@ -95,10 +101,9 @@ static void image_in_order(const struct outcome *o, enum call call) {
          "the image changed with answer %u", (unsigned)o->answer);
     while (now[last - 1] == before[last - 1])
         last--;
-    while (step = before[at] == KHL_KIND_PARTNER ? 1 + KHL_RECORD : 1, at + step <= first)
-        at += step;
-    must(step > 1 && first >= at + 1 + KHL_RECORD_NEXT && last <= at + step, "the image changed from byte %zu to %zu",
-         first, last);
+    while (slot < KHL_PARTNERS && !within(khl_image_record(before, slot), before + first, before + last))
+        slot++;
+    must(slot < KHL_PARTNERS, "the image changed from byte %zu to %zu", first, last);
 }
 
 static void written_in_order(const struct outcome *o, enum call call) {
@@ -145,8 +150,8 @@ static void call_once(struct outcome *o, const struct input *input, const struct
     default: o->answer = khl_remove(LENT(IMAGE), LENT(FIRST), LENT(WRITTEN), lent[REPORT]); break;
     }
     memcpy(o->report, lent[REPORT], KHL_REPORT);
-    o->letters = (unsigned)number_at(o->report + KHL_REPORT_LETTERS, 2);
-    o->length = number_at(o->report + KHL_REPORT_LENGTH, 2);
+    o->letters = khl_report_letters(o->report);
+    o->length = khl_report_length(o->report);
     must(o->length <= input->room && o->length <= KHL_IMAGE_MOST, "a length of %zu in a room of %zu", o->length,
          input->room);
     o->image.length = image->length;

@@ -2,8 +2,6 @@
 
 #include <string.h>
 
-#include "../../host/bytes.h"
-
 enum { COVERED = 4 }; /* a MAC begins behind `CSM(` */
 
 struct text {
@@ -51,10 +49,11 @@ static uint64_t read_count(const struct text *text) {
 }
 
 uint64_t seal(const uint8_t *record, uint64_t count, uint64_t key) {
-    uint64_t left = number_at(record + KHL_RECORD_TOP, KHL_KEY) ^ count, sealed = khl_test_encipher(left, key);
-    if (record[KHL_RECORD_FORM] != 2)
+    const uint8_t *top = khl_record_top(record);
+    uint64_t left = khl_number(top, KHL_KEY) ^ count, sealed = khl_test_encipher(left, key);
+    if (khl_record_form(record) != KHL_FORM_PAIR)
         return sealed;
-    uint64_t right = number_at(record + KHL_RECORD_TOP + KHL_KEY, KHL_KEY) ^ count;
+    uint64_t right = khl_number(top + KHL_KEY, KHL_KEY) ^ count;
     return khl_test_encipher(left, khl_test_decipher(right, sealed));
 }
 
@@ -72,8 +71,8 @@ static int seal_keys(struct text *text, const uint8_t *record, uint64_t *both, u
 }
 
 static uint64_t outgoing(const uint8_t *record) {
-    const uint8_t *set = record + KHL_RECORD_OUTGOING;
-    return number_at(set + KHL_SET_FIRST, KHL_KEY) ^ number_at(set + KHL_SET_SECOND, KHL_KEY);
+    const uint8_t *set = khl_record_outgoing(record);
+    return khl_number(khl_set_key(set, 0), KHL_KEY) ^ khl_number(khl_set_key(set, 1), KHL_KEY);
 }
 
 void finish(uint8_t *bytes, size_t length, struct image *ours) {

@@ -27,12 +27,12 @@ int LLVMFuzzerInitialize(int *count, char ***words) {
 static void note_outcome(const struct outcome *o, const struct input *input, struct image *before) {
     const uint8_t *r = o->report;
     uint32_t told =
-        (uint32_t)input->call << 28 | o->answer << 24 | o->letters << 8 | (uint32_t)r[KHL_REPORT_CLASS] << 5;
-    note(told ^ (uint32_t)r[KHL_REPORT_SERVICE] << 17 ^ (uint32_t)r[KHL_REPORT_IV_PRESENT] << 3 ^
-         r[KHL_REPORT_DATE_PRESENT]);
+        (uint32_t)input->call << 28 | o->answer << 24 | o->letters << 8 | (uint32_t)khl_report_class(r) << 5;
+    note(told ^ (uint32_t)khl_report_service(r) << 17 ^ (uint32_t)khl_report_iv_present(r) << 3 ^
+         (uint32_t)khl_report_date_present(r));
     const uint8_t *single = record_of(before, (const uint8_t *)SINGLE, strlen(SINGLE));
     if (single != NULL && o->answer != KHL_BAD_IMAGE)
-        note(told ^ (uint32_t)(single[KHL_RECORD_PHASE] + 1) << 19);
+        note(told ^ ((uint32_t)khl_record_phase(single) + 1) << 19);
 }
 
 int LLVMFuzzerTestOneInput(const uint8_t *bytes, size_t length) {

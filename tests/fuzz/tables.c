@@ -3,18 +3,17 @@
 #include <stdio.h>
 #include <string.h>
 
-#include "../../host/bytes.h"
 #include "must.h"
 
 #define TEXT(words) (const uint8_t *)(words), strlen(words)
-#define NAME(name) (name), (size_t)bare_length(name)
+#define NAME(name) (name), khl_name_length(name)
 
 static const uint8_t top[16] = {0x01, 0x23, 0x45, 0x67, 0x89, 0xAB, 0xCD, 0xEF,
                                 0xFE, 0xDC, 0xBA, 0x98, 0x76, 0x54, 0x32, 0x10};
 static struct image tables[TABLES];
 
 static uint8_t report[KHL_REPORT], reply[KHL_ROOM];
-static size_t told_length(void) { return number_at(report + KHL_REPORT_LENGTH, 2); }
+static size_t told_length(void) { return khl_report_length(report); }
 
 /* ---- the card's calls where they have to succeed */
 
@@ -198,30 +197,29 @@ uint8_t *record_of(struct image *image, const uint8_t *identity, size_t length) 
     memcpy(wanted, identity, length);
     for (unsigned slot = 0; slot < KHL_PARTNERS; slot++) {
         uint8_t *kind = image->bytes + place_of(image, slot);
-        if (*kind == KHL_KIND_PARTNER && memcmp(kind + 1 + KHL_RECORD_IDENTITY, wanted, sizeof wanted) == 0)
+        if (*kind == KHL_KIND_PARTNER && memcmp(khl_record_identity(kind + 1), wanted, sizeof wanted) == 0)
             return kind + 1;
     }
     return NULL;
 }
 
 void make_partner(struct image *theirs, const struct image *ours, const uint8_t *record) {
-    start(theirs, NAME(record + KHL_RECORD_IDENTITY));
-    load(theirs, NAME(ours->bytes + KHL_IMAGE_OWN), NAME(record + KHL_RECORD_NAME), record + KHL_RECORD_TOP,
-         (size_t)KHL_KEY * record[KHL_RECORD_FORM]);
+    start(theirs, NAME(khl_record_identity(record)));
+    load(theirs, NAME(khl_image_own(ours->bytes)), NAME(khl_record_name(record)), khl_record_top(record),
+         (size_t)KHL_KEY * khl_record_form(record));
 }
 
 void make_request(uint8_t *request, int keys) {
     static const uint64_t values[] = {0x133457799BBCDFF1, 0x0E329232EA6D0D73};
     memset(request, 0, KHL_REQUEST);
-    request[KHL_REQUEST_COUNT] = (uint8_t)keys;
+    khl_request_put_count(request, keys);
     for (int i = 0; i < keys; i++) {
-        uint8_t *asked = request + (i == 0 ? KHL_REQUEST_FIRST : KHL_REQUEST_SECOND);
-        put_number(asked + KHL_ASKED_KEY, KHL_KEY, values[i]);
-        asked[KHL_ASKED_FLAGS] = KHL_FLAG_P | KHL_FLAG_IDK1 | KHL_FLAG_IDK2;
-        put_name(asked + KHL_ASKED_NAME, i == 0 ? "AUTHENTICATES" : "ENCIPHERS");
+        khl_put_number(khl_request_key(request, i), KHL_KEY, values[i]);
+        khl_request_put_flags(request, i, KHL_FLAG_P | KHL_FLAG_IDK1 | KHL_FLAG_IDK2);
+        khl_put_name(khl_request_name(request, i), i == 0 ? "AUTHENTICATES" : "ENCIPHERS");
     }
-    request[KHL_REQUEST_IV_KIND] = KHL_IV_ENCIPHERED;
-    put_number(request + KHL_REQUEST_IV, KHL_KEY, 0x1234567890ABCDEF);
-    request[KHL_REQUEST_DATED] = 1;
-    memcpy(request + KHL_REQUEST_DATE, "840229235959", KHL_DATE);
+    khl_request_put_iv_kind(request, KHL_IV_ENCIPHERED);
+    khl_put_number(khl_request_iv(request), KHL_KEY, 0x1234567890ABCDEF);
+    khl_request_put_dated(request, 1);
+    memcpy(khl_request_date(request), "840229235959", KHL_DATE);
 }

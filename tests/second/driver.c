@@ -36,7 +36,7 @@ static size_t take_number(void)
 {
     uint8_t bytes[4];
     take(bytes, sizeof bytes);
-    return (size_t)bytes[0] << 24 | (size_t)bytes[1] << 16 | (size_t)bytes[2] << 8 | bytes[3];
+    return (size_t)khl_number(bytes, sizeof bytes);
 }
 
 static void take_slice(int place)
@@ -54,7 +54,7 @@ static void take_slice(int place)
 static uint32_t call(int number, int slices)
 {
     static const int wanted[] = {4, 5, 5, 4, 3, 6, 4, 3};
-    if (number > 7 || slices != wanted[number] || lent[slices - 1].length != 32)
+    if (number > 7 || slices != wanted[number] || lent[slices - 1].length != KHL_REPORT)
         broken("no such call");
     switch (number) {
     case 0: return khl_receive(SLICE(0), SLICE(1), SLICE(2), at(3));
@@ -70,7 +70,8 @@ static uint32_t call(int number, int slices)
 
 static void give(uint32_t answer, int slices)
 {
-    uint8_t bytes[4] = {answer >> 24, answer >> 16, answer >> 8, answer};
+    uint8_t bytes[4];
+    khl_put_number(bytes, sizeof bytes, answer);
     fwrite(bytes, 1, sizeof bytes, stdout);
     for (int place = 0; place < slices; place++)
         fwrite(lent[place].bytes, 1, lent[place].whole, stdout);
