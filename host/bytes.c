@@ -1,36 +1,28 @@
+#define _DEFAULT_SOURCE
 #include "bytes.h"
 
+#include <stdint.h>
 #include <string.h>
+#include <sys/prctl.h>
+#include <sys/resource.h>
 
-#include "khlongsit.h"
+/* more than a call of the card or a command of ours needs */
+enum { STACK_MOST = 64 * 1024 };
 
-uint64_t number_at(const uint8_t *at, size_t bytes) {
-    uint64_t number = 0;
-    for (size_t i = 0; i < bytes; i++)
-        number = number << 8 | at[i];
-    return number;
+void wipe(void *at, size_t bytes) { explicit_bzero(at, bytes); }
+
+#if defined __has_attribute
+#if __has_attribute(zero_call_used_regs)
+__attribute__((zero_call_used_regs("all")))
+#endif
+#endif
+void wipe_stack(void) {
+    uint8_t below[STACK_MOST];
+    explicit_bzero(below, sizeof below);
 }
 
-void put_number(uint8_t *at, size_t bytes, uint64_t number) {
-    for (size_t i = bytes; i > 0; i--, number >>= 8)
-        at[i - 1] = (uint8_t)number;
-}
-
-int bare_length(const uint8_t *name) {
-    int length = 0;
-    while (length < KHL_NAME && name[length] != ' ')
-        length++;
-    return length;
-}
-
-void put_name(uint8_t *at, const char *name) {
-    size_t length = strlen(name);
-    memset(at, ' ', KHL_NAME);
-    memcpy(at, name, length < KHL_NAME ? length : KHL_NAME);
-}
-
-void wipe(void *at, size_t bytes) {
-    volatile uint8_t *byte = at;
-    while (bytes-- > 0)
-        *byte++ = 0;
+/* the limit does not hold for a dump that is piped to a program, the other does */
+int forbid_core_dump(void) {
+    const struct rlimit none = {0, 0};
+    return setrlimit(RLIMIT_CORE, &none) == 0 && prctl(PR_SET_DUMPABLE, 0) == 0;
 }

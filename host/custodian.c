@@ -12,30 +12,16 @@
 #include "show.h"
 #include "store.h"
 
-/* Keeps the new image that the card has written, or says why it wrote none. */
-static int keep_new(const struct store *store, const char *whom, uint32_t answer, const uint8_t *out,
-                    const uint8_t *report) {
-    if (answer != KHL_DONE)
-        return refused(whom, answer);
-    return store_keep(store, out, number_at(report + KHL_REPORT_LENGTH, 2));
-}
-
 int do_start(int count, char **words) {
     uint8_t out[KHL_IMAGE_MOST], report[KHL_REPORT];
     struct store store;
     const char *own = words[1];
     (void)count;
-    if (store_lock(&store, words[0]) != DONE)
+    if (store_begin(&store, words[0]) != DONE)
         return FAILED;
-    int status = store_is_new(&store);
-    if (status == DONE) {
-        uint32_t answer = khl_start((const uint8_t *)own, strlen(own), out, sizeof out, report);
-        status = keep_new(&store, own, answer, out, report);
-    }
-    store_close(&store);
-    if (status == DONE)
-        printf("started %s\n", own);
-    return status;
+    uint32_t answer = khl_start(TEXT(own), out, sizeof out, report);
+    int status = store_end(&store, own, answer, out, khl_report_length(report));
+    return tell_change(status, words[0], "started %s", own);
 }
 
 /* Whether two components have a half in common: exclusive-or'ed, it would be a key that everybody knows. */
@@ -46,35 +32,44 @@ static int share_a_half(const uint8_t *first, const uint8_t *second, size_t byte
     return 0;
 }
 
+static int judge_components(const uint8_t *first, size_t bytes, const uint8_t *second, size_t again) {
+    if ((bytes != KHL_KEY && bytes != TOP_MOST) || again != bytes)
+        return complain(MISUSED, "two components are wanted, both of 16 or both of 32 hex digits, one to a line");
+    if (!has_odd_parity(first, bytes) || !has_odd_parity(second, bytes))
+        return complain(MISUSED, "the %s component is not of odd parity",
+                        has_odd_parity(first, bytes) ? "second" : "first");
+    if (share_a_half(first, second, bytes))
+        return complain(MISUSED, "the two components are equal, or a half of them is");
+    return DONE;
+}
+
 /* The top key from the components of two custodians, as X9.17 has it in Appendix B: each component is of odd parity,
  * which finds most slips of the hand; they are exclusive-or'ed, and the result, whose bytes are then all even, is made
  * odd. Neither custodian knows the key. */
-static size_t read_components(uint8_t *key) {
+static int read_components(uint8_t *key, size_t *bytes) {
     uint8_t first[TOP_MOST], second[TOP_MOST];
-    size_t bytes = read_secret("first component", first, sizeof first);
-    size_t again = bytes == 0 ? 0 : read_secret("second component", second, sizeof second);
-    size_t whole = 0;
-    if ((bytes != KHL_KEY && bytes != TOP_MOST) || again != bytes)
-        complain(MISUSED, "two components are wanted, both of 16 or both of 32 hex digits, one to a line");
-    else if (!has_odd_parity(first, bytes) || !has_odd_parity(second, bytes))
-        complain(MISUSED, "the %s component is not of odd parity", has_odd_parity(first, bytes) ? "second" : "first");
-    else if (share_a_half(first, second, bytes))
-        complain(MISUSED, "the two components are equal, or a half of them is");
-    else
-        combine(key, first, second, whole = bytes);
+    size_t again = 0;
+    int status = read_secret("first component", first, sizeof first, bytes);
+    if (status == DONE && *bytes > 0)
+        status = read_secret("second component", second, sizeof second, &again);
+    if (status == DONE)
+        status = judge_components(first, *bytes, second, again);
+    if (status == DONE)
+        combine(key, first, second, *bytes);
     wipe(first, sizeof first);
     wipe(second, sizeof second);
-    return whole;
+    return status;
 }
 
 /* The top key: from two custodians, or whole for tests, where it goes to the card as it stands. */
-static size_t top_key(int count, char **words, uint8_t *key) {
+static int top_key(int count, char **words, uint8_t *key, size_t *bytes) {
     if (count == 3)
-        return read_components(key);
-    size_t bytes = strcmp(words[3], "--key") == 0 && count == 5 ? read_hex(words[4], key, TOP_MOST) : 0;
-    if (bytes != KHL_KEY && bytes != TOP_MOST)
-        complain(MISUSED, "what may follow the key name is --key and 16 or 32 hex digits");
-    return bytes == KHL_KEY || bytes == TOP_MOST ? bytes : 0;
+        return read_components(key, bytes);
+    *bytes = strcmp(words[3], "--key") == 0 && count == 5 ? read_hex(words[4], key, TOP_MOST) : 0;
+    wipe_key_words(count, words);
+    if (*bytes == KHL_KEY || *bytes == TOP_MOST)
+        return DONE;
+    return complain(MISUSED, "what may follow the key name is --key and 16 or 32 hex digits");
 }
 
 static int load(const char *path, const char *partner, const char *name, const uint8_t *key, size_t bytes) {
@@ -82,23 +77,26 @@ static int load(const char *path, const char *partner, const char *name, const u
     struct store store;
     if (store_open(&store, path) != DONE)
         return FAILED;
-    uint32_t answer = khl_load(store.image, store.length, (const uint8_t *)partner, strlen(partner),
-                               (const uint8_t *)name, strlen(name), key, bytes, out, sizeof out, report);
-    int status = keep_new(&store, partner, answer, out, report);
-    store_close(&store);
+    uint32_t answer =
+        khl_load(store.image, store.length, TEXT(partner), TEXT(name), key, bytes, out, sizeof out, report);
+    wipe_stack();
+    int status = store_end(&store, partner, answer, out, khl_report_length(report));
     wipe(out, sizeof out);
-    if (status == DONE)
-        printf("loaded %s under %s, %s, check value %06" PRIX32 "\n", partner, name,
-               bytes == KHL_KEY ? "a single key" : "a pair", check_value(key, bytes));
     return status;
 }
 
 int do_load(int count, char **words) {
     uint8_t key[TOP_MOST];
-    size_t bytes = top_key(count, words, key);
-    int status = bytes == 0 ? MISUSED : load(words[0], words[1], words[2], key, bytes);
+    size_t bytes = 0;
+    uint32_t check = 0;
+    int status = top_key(count, words, key, &bytes);
+    if (status == DONE) {
+        check = check_value(key, bytes);
+        status = load(words[0], words[1], words[2], key, bytes);
+    }
     wipe(key, sizeof key);
-    return status;
+    return tell_change(status, words[0], "loaded %s under %s, %s, check value %06" PRIX32, words[1], words[2],
+                       bytes == KHL_KEY ? "a single key" : "a pair", check);
 }
 
 int do_remove(int count, char **words) {
@@ -108,14 +106,11 @@ int do_remove(int count, char **words) {
     (void)count;
     if (store_open(&store, words[0]) != DONE)
         return FAILED;
-    uint32_t answer =
-        khl_remove(store.image, store.length, (const uint8_t *)partner, strlen(partner), out, sizeof out, report);
-    int status = keep_new(&store, partner, answer, out, report);
-    store_close(&store);
+    uint32_t answer = khl_remove(store.image, store.length, TEXT(partner), out, sizeof out, report);
+    wipe_stack();
+    int status = store_end(&store, partner, answer, out, khl_report_length(report));
     wipe(out, sizeof out);
-    if (status == DONE)
-        printf("removed %s\n", partner);
-    return status;
+    return tell_change(status, words[0], "removed %s", partner);
 }
 
 int do_list(int count, char **words) {
@@ -124,13 +119,14 @@ int do_list(int count, char **words) {
     (void)count;
     if (store_open(&store, words[0]) != DONE)
         return FAILED;
-    printf("card %.*s\n", bare_length(store.image + KHL_IMAGE_OWN), (const char *)store.image + KHL_IMAGE_OWN);
+    const uint8_t *own = khl_image_own(store.image);
+    printf("card %.*s\n", (int)khl_name_length(own), (const char *)own);
     show_heading();
-    for (size_t at = KHL_IMAGE_SLOTS; at < store.length; at++) {
-        if (store.image[at] != KHL_KIND_PARTNER)
+    for (int slot = 0; slot < KHL_PARTNERS; slot++) {
+        const uint8_t *record = khl_image_record(store.image, slot);
+        if (record == NULL)
             continue;
-        show_row(store.image + at + 1);
-        at += KHL_RECORD;
+        show_row(record);
         partners++;
     }
     printf("%d of %d partners\n", partners, KHL_PARTNERS);

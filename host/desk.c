@@ -5,36 +5,34 @@
 
 #include "bytes.h"
 #include "commands.h"
+#include "keys.h"
 #include "khlongsit.h"
 #include "request.h"
 #include "say.h"
 #include "show.h"
 #include "store.h"
 
-/* Prints a message as a line; where that fails, says what there is to do. */
-static int print_message(const uint8_t *reply, const uint8_t *report, const char *advice) {
-    size_t length = number_at(report + KHL_REPORT_LENGTH, 2);
-    if (fwrite(reply, 1, length, stdout) == length && putchar('\n') != EOF && fflush(stdout) == 0)
-        return DONE;
-    return complain(FAILED, "the message could not be printed%s", advice);
-}
-
 /* The image with the new count is kept before the message is shown, so no count is ever sent twice. */
-static int build_ksm(const char *path, const char *partner, const uint8_t *request) {
+static int build_ksm(const char *path, const char *partner, uint8_t *request) {
     uint8_t reply[KHL_ROOM], report[KHL_REPORT];
     struct store store;
     if (store_open(&store, path) != DONE)
         return FAILED;
-    uint32_t answer = khl_build_ksm(store.image, store.length, (const uint8_t *)partner, strlen(partner), request,
-                                    KHL_REQUEST, reply, sizeof reply, report);
-    int status = answer == KHL_DONE ? store_keep(&store, store.image, store.length) : refused(partner, answer);
-    store_close(&store);
-    return status == DONE ? print_message(reply, report, ", and waits: give it up and build another") : status;
+    uint32_t answer =
+        khl_build_ksm(store.image, store.length, TEXT(partner), request, KHL_REQUEST, reply, sizeof reply, report);
+    wipe_stack();
+    wipe(request, KHL_REQUEST);
+    int status = store_end(&store, partner, answer, store.image, store.length);
+    if (status == FAILED || (status == DONE && print_line(reply, khl_report_length(report))))
+        return status;
+    return complain(CHANGED, "%s is changed, but the message %s: give it up and build another", path,
+                    status == DONE ? "could not be printed" : "is not printed");
 }
 
 int do_ksm(int count, char **words) {
     uint8_t request[KHL_REQUEST];
     int status = read_request(request, count - 2, words + 2);
+    wipe_key_words(count, words);
     if (status == DONE)
         status = build_ksm(words[0], words[1], request);
     wipe(request, sizeof request);
@@ -47,10 +45,13 @@ int do_rsi(int count, char **words) {
     const char *partner = words[1], *service = count > 2 ? words[2] : "";
     if (store_open(&store, words[0]) != DONE)
         return FAILED;
-    uint32_t answer = khl_build_rsi(store.image, store.length, (const uint8_t *)partner, strlen(partner),
-                                    (const uint8_t *)service, strlen(service), reply, sizeof reply, report);
-    store_close(&store);
-    return answer == KHL_DONE ? print_message(reply, report, "") : refused(partner, answer);
+    uint32_t answer =
+        khl_build_rsi(store.image, store.length, TEXT(partner), TEXT(service), reply, sizeof reply, report);
+    wipe_stack();
+    int status = store_end(&store, partner, answer, NULL, 0);
+    if (status != DONE || print_line(reply, khl_report_length(report)))
+        return status;
+    return complain(FAILED, "the message could not be printed; nothing is changed");
 }
 
 int do_give_up(int count, char **words) {
@@ -60,12 +61,10 @@ int do_give_up(int count, char **words) {
     (void)count;
     if (store_open(&store, words[0]) != DONE)
         return FAILED;
-    uint32_t answer = khl_give_up(store.image, store.length, (const uint8_t *)partner, strlen(partner), report);
-    int status = answer == KHL_DONE ? store_keep(&store, store.image, store.length) : refused(partner, answer);
-    store_close(&store);
-    if (status == DONE)
-        printf("gave up on %s\n", partner);
-    return status;
+    uint32_t answer = khl_give_up(store.image, store.length, TEXT(partner), report);
+    wipe_stack();
+    int status = store_end(&store, partner, answer, store.image, store.length);
+    return tell_change(status, words[0], "gave up on %s", partner);
 }
 
 int do_ask(int count, char **words) {
@@ -75,11 +74,11 @@ int do_ask(int count, char **words) {
     (void)count;
     if (store_open(&store, words[0]) != DONE)
         return FAILED;
-    uint32_t answer =
-        khl_ask(store.image, store.length, (const uint8_t *)partner, strlen(partner), reply, sizeof reply, report);
-    store_close(&store);
-    if (answer == KHL_DONE)
+    uint32_t answer = khl_ask(store.image, store.length, TEXT(partner), reply, sizeof reply, report);
+    wipe_stack();
+    int status = store_end(&store, partner, answer, NULL, 0);
+    if (status == DONE)
         show_entry(reply);
     wipe(reply, sizeof reply);
-    return answer == KHL_DONE ? DONE : refused(partner, answer);
+    return status;
 }

@@ -1,5 +1,7 @@
 #include "keys.h"
 
+#include <string.h>
+
 #include "bytes.h"
 #include "khlongsit.h"
 
@@ -46,8 +48,15 @@ void combine(uint8_t *key, const uint8_t *first, const uint8_t *second, size_t b
 }
 
 uint32_t check_value(const uint8_t *key, size_t bytes) {
-    uint64_t left = number_at(key, KHL_KEY), block = khl_test_encipher(left, 0);
+    uint64_t left = khl_number(key, KHL_KEY), block = khl_test_encipher(left, 0);
     if (bytes > KHL_KEY)
-        block = khl_test_encipher(left, khl_test_decipher(number_at(key + KHL_KEY, KHL_KEY), block));
+        block = khl_test_encipher(left, khl_test_decipher(khl_number(key + KHL_KEY, KHL_KEY), block));
+    wipe_stack();
     return (uint32_t)(block >> 40);
+}
+
+void wipe_key_words(int count, char **words) {
+    for (int i = 1; i < count; i++)
+        if (strcmp(words[i - 1], "--key") == 0)
+            wipe(words[i], strlen(words[i]));
 }

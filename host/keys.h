@@ -20,4 +20,7 @@ void combine(uint8_t *key, const uint8_t *first, const uint8_t *second, size_t b
 /* The check value of a key or pair: the first three bytes of the zero block enciphered under it. */
 uint32_t check_value(const uint8_t *key, size_t bytes);
 
+/* Wipes the keys among the words of a command: each that stands behind --key. */
+void wipe_key_words(int count, char **words);
+
 #endif

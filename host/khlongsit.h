@@ -196,7 +196,7 @@ enum khl_flag {
 
 enum khl_iv_kind { KHL_IV_NONE, KHL_IV_PLAIN, KHL_IV_ENCIPHERED };
 
-/* A request begins as 73 zero bytes. The first key has place 0, the second 1. */
+/* A request begins as 73 zero bytes. The first key has place 0, the second 1; this is where its 25 bytes stand. */
 static inline size_t khl_request_asked(int place) { return place == 0 ? KHL_REQUEST_FIRST : KHL_REQUEST_SECOND; }
 
 static inline int khl_request_count(const uint8_t *request) { return request[KHL_REQUEST_COUNT]; }

@@ -1,26 +1,32 @@
 /* The line program: what a host runs beside the payment line. `line --help` is its manual. */
-#define _POSIX_C_SOURCE 200809L
+#define _DEFAULT_SOURCE
+#include <fcntl.h>
 #include <signal.h>
 #include <stdio.h>
 #include <string.h>
+#include <unistd.h>
 
+#include "bytes.h"
 #include "commands.h"
 #include "say.h"
+#include "store.h"
 
 static const char help[] =
     "usage: line COMMAND IMAGE [WORD..]\n"
     "\n"
     "IMAGE is the file that keeps the card's partner table; it is exactly the stored image and holds keys in the\n"
-    "clear. A change is written to IMAGE.new, forced to the disk and renamed, so a cut leaves the old image or the\n"
-    "new one. Several commands may be at one image at once: each waits for its turn.\n"
+    "clear. A change is written to IMAGE.line-new, forced to the disk and renamed, so a cut leaves the old image or\n"
+    "the new one; no IMAGE may have that ending. Mode, owner and group of IMAGE are carried over, or the change is\n"
+    "refused; so is the change of an image with a second name (a hard link). Several commands may be at one image at\n"
+    "once: each waits for its turn.\n"
     "\n"
     "Custodians\n"
     "  start IMAGE OWN            a new card with the identity OWN and no partners; IMAGE must not be there yet\n"
     "  load IMAGE PARTNER NAME    a partner with the key name NAME and a top key from two custodians: their\n"
     "                             components on standard input, one to a line, both of 16 hex digits (a single\n"
     "                             key) or both of 32 (a pair). Each is of odd parity; their exclusive-or, made odd,\n"
-    "                             is the key. Nothing that is typed at a terminal is shown. The check value that is\n"
-    "                             printed is to be the same at both ends\n"
+    "                             is the key. Nothing that is typed at a terminal is shown; a terminal that cannot\n"
+    "                             hide it is not read. The check value that is printed is to be the same at both ends\n"
     "  load IMAGE PARTNER NAME --key HEX\n"
     "                             the same with the whole key, for tests: see below on keys\n"
     "  remove IMAGE PARTNER       takes a partner out, with its keys and counts\n"
@@ -43,15 +49,18 @@ static const char help[] =
     "  run IMAGE                  receives messages on standard input, one to a line, and prints the replies on\n"
     "                             standard output, each once the image is kept. Standard error has for each line\n"
     "                             its number, the card's answer, and what the message told: the service wanted,\n"
-    "                             the IV in the clear and the date, or the letters of an error\n"
+    "                             the IV in the clear and the date, or the letters of an error. It stops at a line\n"
+    "                             whose reply or account could not be written, and names it\n"
     "\n"
     "Keys. No command prints a key; a check value is the first three bytes of the zero block enciphered under it.\n"
     "A key on the command line is seen by every user of the machine and stays in the shell's history: use - and\n"
     "standard input. An ESM carries no MAC: whoever can write to the line can break a waiting exchange, and spend\n"
     "the send count with a CTP of 99999999.\n"
     "\n"
-    "Exit status: 0 done; 1 the card refused, or trouble with a file, with nothing changed unless the message says\n"
-    "so; 2 the command was not understood. `run` ends with 0 also where the card refused a message.\n";
+    "Exit status: 0 done; 1 the card refused, or trouble with a file, and nothing is changed; 2 the command was not\n"
+    "understood; 3 IMAGE is changed, but what the command had to say or to send could not be written, or a cut may\n"
+    "undo the change: standard error says what. `run` ends with 0 also where the card refused a message; its 1 and 3\n"
+    "are about the line that it names, and what the lines before it changed is changed.\n";
 
 static const struct command {
     const char *name;
@@ -70,24 +79,70 @@ static const struct command *find_command(const char *name) {
     return NULL;
 }
 
-int main(int argc, char **argv) {
-    /* a reader that has gone is an error of writing, and said so */
+volatile sig_atomic_t ended_by;
+
+/* a second later once more, for the program may be about to wait */
+static void note_end(int number) {
+    if (number != SIGALRM)
+        ended_by = number;
+    alarm(1);
+}
+
+/* A reader that has gone and a file at its limit are errors of writing, and said so. A signal that asks the program to
+ * end makes its waiting fail; one that is ignored stays so. */
+static void set_signals(void) {
+    static const int ends[] = {SIGALRM, SIGHUP, SIGINT, SIGQUIT, SIGTERM};
+    struct sigaction old, noted = {.sa_handler = note_end};
     signal(SIGPIPE, SIG_IGN);
+    signal(SIGXFSZ, SIG_IGN);
+    for (size_t i = 0; i < sizeof ends / sizeof *ends; i++)
+        if (sigaction(ends[i], NULL, &old) == 0 && old.sa_handler != SIG_IGN)
+            sigaction(ends[i], &noted, NULL);
+}
+
+/* A standard stream that was closed is opened so that its use fails: else the image would get its number, and words
+ * would be written into it. */
+static int open_streams(void) {
+    for (int stream = 0; stream < 3; stream++)
+        if (fcntl(stream, F_GETFD) < 0 && open("/dev/null", stream == 0 ? O_WRONLY : O_RDONLY) != stream)
+            return 0;
+    return 1;
+}
+
+static int act(int argc, char **argv) {
     if (argc < 2)
         return complain(MISUSED, "no command; line --help tells all");
-    int status = DONE;
     if (strcmp(argv[1], "--help") == 0) {
         fputs(help, stdout);
-    } else {
-        const struct command *command = find_command(argv[1]);
-        if (command == NULL)
-            return complain(MISUSED, "%s: no such command; line --help tells all", argv[1]);
-        if (argc - 2 < command->least || argc - 2 > command->most)
-            return complain(MISUSED, "%s: too %s words; line --help tells all", argv[1],
-                            argc - 2 < command->least ? "few" : "many");
-        status = command->act(argc - 2, argv + 2);
+        return DONE;
     }
-    if (fflush(stdout) != 0 || ferror(stdout))
-        return status == DONE ? complain(FAILED, "cannot write standard output") : status;
+    const struct command *command = find_command(argv[1]);
+    if (command == NULL)
+        return complain(MISUSED, "%s: no such command; line --help tells all", argv[1]);
+    if (argc - 2 < command->least || argc - 2 > command->most)
+        return complain(MISUSED, "%s: too %s words; line --help tells all", argv[1],
+                        argc - 2 < command->least ? "few" : "many");
+    if (store_may_have(argv[2]) != DONE)
+        return FAILED;
+    return command->act(argc - 2, argv + 2);
+}
+
+int main(int argc, char **argv) {
+    if (!open_streams())
+        return FAILED;
+    if (!forbid_core_dump())
+        return complain(FAILED, "cannot forbid a core dump, which would show keys");
+    set_signals();
+    wipe_stack(); /* before there are keys, so that its functions are found by the loader without any in a register */
+    int status = act(argc, argv);
+    wipe_stack();
+    for (int i = 1; i < argc; i++)
+        wipe(argv[i], strlen(argv[i]));
+    if ((fflush(stdout) != 0 || ferror(stdout)) && status == DONE)
+        status = complain(FAILED, "cannot write standard output");
+    if (ended_by && status == FAILED) {
+        signal(ended_by, SIG_DFL);
+        raise(ended_by);
+    }
     return status;
 }

@@ -2,7 +2,6 @@
 
 #include <string.h>
 
-#include "bytes.h"
 #include "keys.h"
 #include "khlongsit.h"
 #include "say.h"
@@ -10,26 +9,29 @@
 
 /* A key or IV of 16 hex digits, as it stands or, for `-`, on the next line of standard input. */
 static int read_block(uint8_t *block, const char *word, const char *what) {
-    size_t bytes = strcmp(word, "-") == 0 ? read_secret(what, block, KHL_KEY) : read_hex(word, block, KHL_KEY);
-    return bytes == KHL_KEY ? DONE : complain(MISUSED, "%s is 16 hex digits", what);
+    size_t bytes = 0;
+    int status = DONE;
+    if (strcmp(word, "-") == 0)
+        status = read_secret(what, block, KHL_KEY, &bytes);
+    else
+        bytes = read_hex(word, block, KHL_KEY);
+    return status != DONE || bytes == KHL_KEY ? status : complain(MISUSED, "%s is 16 hex digits", what);
 }
 
-/* The key that is being described: the last one begun. */
-static uint8_t *current_key(uint8_t *request) {
-    return request + (request[KHL_REQUEST_COUNT] == 2 ? KHL_REQUEST_SECOND : KHL_REQUEST_FIRST);
-}
+/* The place of the key that is being described: the last one begun. */
+static int current(const uint8_t *request) { return khl_request_count(request) - 1; }
 
 /* ---- the options: each is given the request and the word behind it */
 
 static int begin_key(uint8_t *request, const char *word) {
-    if (request[KHL_REQUEST_COUNT] == 2)
+    if (khl_request_count(request) == 2)
         return complain(MISUSED, "a message has at most two keys");
-    request[KHL_REQUEST_COUNT]++;
-    return read_block(current_key(request) + KHL_ASKED_KEY, word, "a data key");
+    khl_request_put_count(request, khl_request_count(request) + 1);
+    return read_block(khl_request_key(request, current(request)), word, "a data key");
 }
 
 static int set_flag(uint8_t *request, enum khl_flag flag) {
-    current_key(request)[KHL_ASKED_FLAGS] |= (uint8_t)flag;
+    khl_request_put_flags(request, current(request), khl_request_flags(request, current(request)) | flag);
     return DONE;
 }
 
@@ -41,7 +43,7 @@ static int mark_p(uint8_t *request, const char *word) {
 static int write_idk1(uint8_t *request, const char *word) {
     if (strlen(word) > KHL_NAME)
         return complain(MISUSED, "%s is longer than %d characters", word, KHL_NAME);
-    put_name(current_key(request) + KHL_ASKED_NAME, word);
+    khl_put_name(khl_request_name(request, current(request)), word);
     return set_flag(request, KHL_FLAG_IDK1);
 }
 
@@ -51,10 +53,10 @@ static int write_idk2(uint8_t *request, const char *word) {
 }
 
 static int set_iv(uint8_t *request, enum khl_iv_kind kind, const char *word) {
-    if (request[KHL_REQUEST_IV_KIND] != KHL_IV_NONE)
+    if (khl_request_iv_kind(request) != KHL_IV_NONE)
         return complain(MISUSED, "a message has at most one IV");
-    request[KHL_REQUEST_IV_KIND] = (uint8_t)kind;
-    return read_block(request + KHL_REQUEST_IV, word, "an IV");
+    khl_request_put_iv_kind(request, kind);
+    return read_block(khl_request_iv(request), word, "an IV");
 }
 
 static int plain_iv(uint8_t *request, const char *word) { return set_iv(request, KHL_IV_PLAIN, word); }
@@ -63,8 +65,8 @@ static int enciphered_iv(uint8_t *request, const char *word) { return set_iv(req
 static int set_date(uint8_t *request, const char *word) {
     if (strlen(word) != KHL_DATE)
         return complain(MISUSED, "a date is 12 digits, YYMMDDHHMMSS");
-    request[KHL_REQUEST_DATED] = 1;
-    memcpy(request + KHL_REQUEST_DATE, word, KHL_DATE);
+    khl_request_put_dated(request, 1);
+    memcpy(khl_request_date(request), word, KHL_DATE);
     return DONE;
 }
 
@@ -92,13 +94,14 @@ int read_request(uint8_t *request, int count, char **words) {
         const struct option *option = find_option(words[i]);
         if (option == NULL)
             return complain(MISUSED, "%s: no such option", words[i]);
-        if (option->of_key && request[KHL_REQUEST_COUNT] == 0)
+        if (option->of_key && khl_request_count(request) == 0)
             return complain(MISUSED, "%s stands behind the --key that it is about", words[i]);
         if (i + option->words >= count)
             return complain(MISUSED, "%s: a word is missing behind it", words[i]);
         i += option->words;
-        if (option->act(request, words[i]) != DONE)
-            return MISUSED;
+        int status = option->act(request, words[i]);
+        if (status != DONE)
+            return status;
     }
-    return request[KHL_REQUEST_COUNT] > 0 ? DONE : complain(MISUSED, "a key message needs a --key");
+    return khl_request_count(request) > 0 ? DONE : complain(MISUSED, "a key message needs a --key");
 }

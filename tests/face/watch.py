@@ -1,0 +1,231 @@
+"""What a shell cannot see of a program. Usage: watch.py WHAT .. COMMAND ..
+
+memory KEY,KEY.. COMMAND   runs it and looks at its memory when it ends: status 100 where one of the keys (hex digits)
+                           is still there, else the command's own; SIGTERM is passed on to it
+core COMMAND               starts it, which has to wait for input, and ends it with SIGSEGV: status 1 where it may write
+                           a core dump, or has
+terminal HOW COMMAND       runs it at a terminal and prints what the terminal showed; types the lines of standard input,
+                           each when it is asked for. HOW is `plain`, `locked` (the terminal shows what is typed,
+                           whatever is set), `orphaned` (it cannot be set by this program), or `interrupt` (Ctrl-C is
+                           typed in place of a line). Status 100 where it does not show what is typed afterwards
+nobody COMMAND             runs it without any rights, if we have any to give up
+
+What the kernel does not let us try is taken as being so: `memory` needs ptrace, `locked` rights of the system (else it
+is `orphaned`), the others nothing.
+"""
+import ctypes, fcntl, os, pty, resource, select, signal, struct, sys, termios, time
+
+libc = ctypes.CDLL(None, use_errno=True)
+libc.ptrace.argtypes = [ctypes.c_long, ctypes.c_long, ctypes.c_void_p, ctypes.c_void_p]
+TRACEME, CONT, SETOPTIONS = 0, 7, 0x4200
+ON_EXEC, ON_EXIT, KILLED_WITH_US = 1 << 4, 1 << 6, 1 << 20
+EXEC, EXIT = 4, 6
+SET_SUBREAPER = 36
+NOBODY = 65534
+
+
+def as_shell(status):
+    return os.WEXITSTATUS(status) if os.WIFEXITED(status) else 128 + os.WTERMSIG(status)
+
+
+# ---- memory
+
+def patterns(key):
+    raw = bytes.fromhex(key)
+    return [raw, raw[::-1], key.upper().encode(), key.lower().encode()]
+
+
+# The memory of a program, part by part, without its code; of an emulator not its own, which has the words of the command
+# line.
+def parts(memory, maps, program):
+    emulated = os.path.basename(program).startswith('qemu')
+    for line in maps.read().splitlines():
+        fields = line.split(None, 5)
+        name = fields[5] if len(fields) > 5 else ''
+        if fields[1][0] != 'r' or fields[1][2] == 'x' or name.startswith('[v'):
+            continue
+        if emulated and name in ('[heap]', '[stack]'):
+            continue
+        start, end = (int(place, 16) for place in fields[0].split('-'))
+        memory.seek(start)
+        try:
+            yield memory.read(end - start)
+        except OSError:
+            pass
+
+
+def look(memory, maps, program, keys):
+    searched = [pattern for key in keys for pattern in patterns(key)]
+    found, ours = set(), False
+    for part in parts(memory, maps, program):
+        ours = ours or b'usage: line COMMAND' in part
+        found.update(pattern for pattern in searched if pattern in part)
+    return bool(found) or not ours
+
+
+# It is opened when the program begins, for later it lets nobody look.
+def open_memory(child):
+    try:
+        return open(f'/proc/{child}/mem', 'rb', 0), open(f'/proc/{child}/maps'), os.readlink(f'/proc/{child}/exe')
+    except OSError:
+        return None
+
+
+def memory(keys, command):
+    child = os.fork()
+    if child == 0:
+        traced = libc.ptrace(TRACEME, 0, None, None) == 0
+        if traced:
+            os.kill(os.getpid(), signal.SIGSTOP)
+        os.execv(command[0], command)
+    status = os.waitpid(child, os.WUNTRACED)[1]
+    if not os.WIFSTOPPED(status):
+        return as_shell(status)
+    signal.signal(signal.SIGTERM, lambda number, frame: os.kill(child, number))
+    libc.ptrace(SETOPTIONS, child, None, ON_EXEC | ON_EXIT | KILLED_WITH_US)
+    sent, left = 0, False
+    while True:
+        libc.ptrace(CONT, child, None, sent)
+        status = os.waitpid(child, 0)[1]
+        if not os.WIFSTOPPED(status):
+            return 100 if left else as_shell(status)
+        sent = 0
+        if status >> 16 == EXEC:
+            opened = open_memory(child)
+        elif status >> 16 == EXIT:
+            left = opened is not None and look(*opened, keys.split(','))
+        else:
+            sent = os.WSTOPSIG(status)
+
+
+# ---- core dumps
+
+def give_up_rights():
+    if os.geteuid() == 0:
+        os.setgroups([])
+        os.setgid(NOBODY)
+        os.setuid(NOBODY)
+
+
+def nobody(command):
+    give_up_rights()
+    os.execv(command[0], command)
+
+
+# A program that lets nobody look at it belongs to root, whoever started it.
+def core(command):
+    source, sink = os.pipe()
+    soft, hard = resource.getrlimit(resource.RLIMIT_CORE)
+    before = set(os.listdir())
+    child = os.fork()
+    if child == 0:
+        os.dup2(source, 0)
+        os.close(sink)
+        resource.setrlimit(resource.RLIMIT_CORE, (hard, hard))
+        nobody(command)
+    for _ in range(100):
+        time.sleep(0.05)
+        limits = open(f'/proc/{child}/limits').read().split('Max core file size')[1].split()[:2]
+        belongs = os.stat(f'/proc/{child}/environ').st_uid
+        if limits == ['0', '0'] and belongs == 0:
+            break
+    os.kill(child, signal.SIGSEGV)
+    os.waitpid(child, 0)
+    return 0 if limits == ['0', '0'] and belongs == 0 and set(os.listdir()) == before else 1
+
+
+# ---- terminals
+
+def shows(terminal):
+    return termios.tcgetattr(terminal)[3] & termios.ECHO != 0
+
+
+# Holds the terminal to showing what is typed.
+def lock_echo(terminal):
+    try:
+        fcntl.ioctl(terminal, 0x5457, struct.pack('4I20x', 0, 0, 0, termios.ECHO))
+        return True
+    except OSError:
+        return False
+
+
+# Starts a command in a group of its own, whose parent ends, so that the kernel lets it neither set nor read the terminal.
+def start_orphaned(terminal, command):
+    told, tell = os.pipe()
+    libc.prctl(SET_SUBREAPER, 1, 0, 0, 0)
+    leader = os.fork()
+    if leader == 0:
+        os.setsid()
+        fcntl.ioctl(terminal, termios.TIOCSCTTY, 0)
+        if os.fork() == 0:
+            parent = os.getpid()
+            child = os.fork()
+            if child == 0:
+                os.setpgid(0, 0)
+                while os.getppid() == parent:
+                    time.sleep(0.01)
+                join(terminal, command)
+            os.write(tell, b'%d\n' % child)
+            os._exit(0)
+        os.wait()
+        time.sleep(60)
+        os._exit(0)
+    return leader, int(os.read(told, 20))
+
+
+def join(terminal, command):
+    for stream in range(3):
+        os.dup2(terminal, stream)
+    os.execv(command[0], command)
+
+
+def start(terminal, command):
+    child = os.fork()
+    if child == 0:
+        os.setsid()
+        fcntl.ioctl(terminal, termios.TIOCSCTTY, 0)
+        join(terminal, command)
+    return child
+
+
+# What the terminal shows until the program has ended, or has not for long; lines are typed when a question stands there.
+def converse(master, child, lines):
+    shown, until = b'', time.monotonic() + 10
+    while True:
+        if select.select([master], [], [], 0.1)[0]:
+            shown += os.read(master, 1000)
+            if shown.endswith(b' component: ') and lines:
+                os.write(master, lines.pop(0))
+            continue
+        if time.monotonic() > until:
+            os.kill(child, signal.SIGKILL)
+        ended, status = os.waitpid(child, os.WNOHANG)
+        if ended:
+            return shown, status
+
+
+def terminal(how, command):
+    typed = [b'\x03'] if how == 'interrupt' else [line.encode() for line in sys.stdin]
+    master, slave = pty.openpty()
+    leader = None
+    if how == 'orphaned' or (how == 'locked' and not lock_echo(slave)):
+        leader, child = start_orphaned(slave, command)
+    else:
+        child = start(slave, command)
+    shown, status = converse(master, child, typed)
+    sys.stdout.write(shown.decode().replace('\r', ''))
+    if leader is not None:
+        os.kill(leader, signal.SIGKILL)
+    return as_shell(status) if shows(slave) else 100
+
+
+what, words = sys.argv[1], sys.argv[2:]
+if what == 'memory':
+    sys.exit(memory(words[0], words[1:]))
+elif what == 'core':
+    sys.exit(core(words))
+elif what == 'terminal':
+    sys.exit(terminal(words[0], words[1:]))
+elif what == 'nobody':
+    nobody(words)
+sys.exit(__doc__)
