@@ -26,10 +26,10 @@
  * - Nothing takes constant time: comparing MACs, names and keys does not, and the cipher's table look-ups have indices
  *   made of keys and data. Who can time the calls, or shares the processor's cache, may learn of keys.
  * - Image, record and request hold keys in the clear, and so does every copy of them: wiping them is the host's part.
- * - Keys and key schedules are left on the stack by a call. A host that wants them gone overwrites KHL_STACK bytes of
- *   stack after it, from where it was called.
- * - A call needs at most KHL_STACK bytes of stack; a test holds that with 64 partners on a painted stack, which has
- *   3,872 bytes used by receive and build a KSM, 3,384 by build an RSI and give up, at most 1,288 by the others.
+ * - Keys and key schedules are left on the stack by a call, and keys may be left in registers. A host that wants them
+ *   gone overwrites KHL_STACK bytes of stack after the call, from where it was called; host/bytes.c does so.
+ * - A call needs at most KHL_STACK bytes of stack: a test paints the stack and holds every call to that, with 64
+ *   partners. Today receive and build a KSM use 3,872 bytes, build an RSI and give up 3,384, the others at most 1,288.
  */
 #ifndef KHLONGSIT_H
 #define KHLONGSIT_H

@@ -60,7 +60,8 @@ static const char help[] =
     "Exit status: 0 done; 1 the card refused, or trouble with a file, and nothing is changed; 2 the command was not\n"
     "understood; 3 IMAGE is changed, but what the command had to say or to send could not be written, or a cut may\n"
     "undo the change: standard error says what. `run` ends with 0 also where the card refused a message; its 1 and 3\n"
-    "are about the line that it names, and what the lines before it changed is changed.\n";
+    "are about the line that it names, and what the lines before it changed stays changed. A signal that asks a\n"
+    "command to end is heeded where it waits; `run` ends behind the line that it is at.\n";
 
 static const struct command {
     const char *name;

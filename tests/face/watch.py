@@ -2,6 +2,8 @@
 
 memory KEY,KEY.. COMMAND   runs it and looks at its memory when it ends: status 100 where one of the keys (hex digits)
                            is still there, else the command's own; SIGTERM is passed on to it
+cut N COMMAND              runs it and ends it with SIGKILL before the Nth thing that it asks of the system once it has
+                           its lock: status 137, or the command's own where it ends earlier
 core COMMAND               starts it, which has to wait for input, and ends it with SIGSEGV: status 1 where it may write
                            a core dump, or has
 terminal HOW COMMAND       runs it at a terminal and prints what the terminal showed; types the lines of standard input,
@@ -10,16 +12,17 @@ terminal HOW COMMAND       runs it at a terminal and prints what the terminal sh
                            typed in place of a line). Status 100 where it does not show what is typed afterwards
 nobody COMMAND             runs it without any rights, if we have any to give up
 
-What the kernel does not let us try is taken as being so: `memory` needs ptrace, `locked` rights of the system (else it
-is `orphaned`), the others nothing.
+What the kernel does not let us try is not tried: `memory` and `cut` need ptrace, without which the command just runs;
+`locked` needs rights of the system, without which it is `orphaned`.
 """
-import ctypes, fcntl, os, pty, resource, select, signal, struct, sys, termios, time
+import ctypes, fcntl, os, platform, pty, resource, select, signal, struct, sys, termios, time
 
 libc = ctypes.CDLL(None, use_errno=True)
 libc.ptrace.argtypes = [ctypes.c_long, ctypes.c_long, ctypes.c_void_p, ctypes.c_void_p]
-TRACEME, CONT, SETOPTIONS = 0, 7, 0x4200
-ON_EXEC, ON_EXIT, KILLED_WITH_US = 1 << 4, 1 << 6, 1 << 20
-EXEC, EXIT = 4, 6
+TRACEME, CONT, TO_CALL, SETOPTIONS, CALL_INFO = 0, 7, 24, 0x4200, 0x420E
+MARKED_CALLS, ON_EXEC, ON_EXIT, KILLED_WITH_US = 1, 1 << 4, 1 << 6, 1 << 20
+EXEC, EXIT, CALL = 4, 6, signal.SIGTRAP | 0x80
+FLOCK = {'x86_64': 73, 'aarch64': 32}
 SET_SUBREAPER = 36
 NOBODY = 65534
 
@@ -72,30 +75,64 @@ def open_memory(child):
 
 
 def memory(keys, command):
+    opened, left = None, False
+
+    def stopped(child, event, stop):
+        nonlocal opened, left
+        if event == EXEC:
+            opened = open_memory(child)
+        elif event == EXIT:
+            left = opened is not None and look(*opened, keys.split(','))
+        return 0 if event else stop
+
+    status = trace(command, ON_EXEC | ON_EXIT, CONT, stopped)
+    return 100 if left else status
+
+
+# ---- tracing
+
+# Runs a command; `stopped` is called whenever it stops, and gives the signal to go on with. Gives the command's status.
+def trace(command, options, going_on, stopped):
     child = os.fork()
     if child == 0:
-        traced = libc.ptrace(TRACEME, 0, None, None) == 0
-        if traced:
+        if libc.ptrace(TRACEME, 0, None, None) == 0:
             os.kill(os.getpid(), signal.SIGSTOP)
         os.execv(command[0], command)
     status = os.waitpid(child, os.WUNTRACED)[1]
-    if not os.WIFSTOPPED(status):
-        return as_shell(status)
     signal.signal(signal.SIGTERM, lambda number, frame: os.kill(child, number))
-    libc.ptrace(SETOPTIONS, child, None, ON_EXEC | ON_EXIT | KILLED_WITH_US)
-    sent, left = 0, False
-    while True:
-        libc.ptrace(CONT, child, None, sent)
+    libc.ptrace(SETOPTIONS, child, None, options | KILLED_WITH_US)
+    sent = 0
+    while os.WIFSTOPPED(status):
+        libc.ptrace(going_on, child, None, sent)
         status = os.waitpid(child, 0)[1]
-        if not os.WIFSTOPPED(status):
-            return 100 if left else as_shell(status)
-        sent = 0
-        if status >> 16 == EXEC:
-            opened = open_memory(child)
-        elif status >> 16 == EXIT:
-            left = opened is not None and look(*opened, keys.split(','))
-        else:
-            sent = os.WSTOPSIG(status)
+        if os.WIFSTOPPED(status):
+            sent = stopped(child, status >> 16, os.WSTOPSIG(status))
+    return as_shell(status)
+
+
+# The number of the call that a program is about to make; none where it comes back from one.
+def call_of(child):
+    info = ctypes.create_string_buffer(88)
+    libc.ptrace(CALL_INFO, child, len(info), info)
+    begins, number = struct.unpack_from('B23xQ', info)
+    return number if begins == 1 else None
+
+
+def cut(number, command):
+    calls = None
+
+    def stopped(child, event, stop):
+        nonlocal calls
+        call = call_of(child) if stop == CALL else None
+        if call == FLOCK[platform.machine()]:
+            calls = 0
+        elif call is not None and calls is not None:
+            calls += 1
+            if calls == number:
+                os.kill(child, signal.SIGKILL)
+        return 0 if event or stop == CALL else stop
+
+    return trace(command, ON_EXEC | MARKED_CALLS, TO_CALL, stopped)
 
 
 # ---- core dumps
@@ -222,6 +259,8 @@ def terminal(how, command):
 what, words = sys.argv[1], sys.argv[2:]
 if what == 'memory':
     sys.exit(memory(words[0], words[1:]))
+elif what == 'cut':
+    sys.exit(cut(int(words[0]), words[1:]))
 elif what == 'core':
     sys.exit(core(words))
 elif what == 'terminal':
