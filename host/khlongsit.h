@@ -23,6 +23,9 @@
  * - An ESM carries no MAC. Whoever can write to the line can break a waiting exchange with one, and an ESM whose CTP is
  *   99,999,999 spends the send count: no key message can be built for that partner until both ends load each other
  *   anew.
+ * - A KSM of two equal KDs has a MAC key of zero whatever they decipher to. Whoever can write to the line can make one
+ *   without the top key, and it is accepted: its keys are known to nobody, and the expected count rises with it, as far
+ *   as 99,999,999, where every later KSM of that partner is P until both ends load each other anew.
  * - Nothing takes constant time: comparing MACs, names and keys does not, and the cipher's table look-ups have indices
  *   made of keys and data. Who can time the calls, or shares the processor's cache, may learn of keys.
  * - Image, record and request hold keys in the clear, and so does every copy of them: wiping them is the host's part.
