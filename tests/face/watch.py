@@ -2,6 +2,7 @@
 
 memory KEY,KEY.. COMMAND   runs it and looks at its memory when it ends: status 100 where one of the keys (hex digits)
                            is still there, else the command's own; SIGTERM is passed on to it
+waiting KEY,KEY.. COMMAND  the same of a command whose output nobody reads: it is ended by SIGUSR1 when it waits
 cut N COMMAND              runs it and ends it with SIGKILL before the Nth thing that it asks of the system once it has
                            its lock: status 137, or the command's own where it ends earlier
 core COMMAND               starts it, which has to wait for input, and ends it with SIGSEGV: status 1 where it may write
@@ -12,10 +13,10 @@ terminal HOW COMMAND       runs it at a terminal and prints what the terminal sh
                            typed in place of a line). Status 100 where it does not show what is typed afterwards
 nobody COMMAND             runs it without any rights, if we have any to give up
 
-What the kernel does not let us try is not tried: `memory` and `cut` need ptrace, without which the command just runs;
+What the kernel does not let us try is not tried: `memory`, `waiting` and `cut` need ptrace, without which the command just runs;
 `locked` needs rights of the system, without which it is `orphaned`.
 """
-import ctypes, fcntl, os, platform, pty, resource, select, signal, struct, sys, termios, time
+import ctypes, fcntl, os, platform, pty, resource, select, signal, struct, sys, termios, threading, time
 
 libc = ctypes.CDLL(None, use_errno=True)
 libc.ptrace.argtypes = [ctypes.c_long, ctypes.c_long, ctypes.c_void_p, ctypes.c_void_p]
@@ -74,7 +75,7 @@ def open_memory(child):
         return None
 
 
-def memory(keys, command):
+def memory(keys, command, begun=lambda child: None):
     opened, left = None, False
 
     def stopped(child, event, stop):
@@ -85,19 +86,59 @@ def memory(keys, command):
             left = opened is not None and look(*opened, keys.split(','))
         return 0 if event else stop
 
-    status = trace(command, ON_EXEC | ON_EXIT, CONT, stopped)
+    status = trace(command, ON_EXEC | ON_EXIT, CONT, stopped, begun)
     return 100 if left else status
+
+
+# A pipe that is full.
+def full_pipe():
+    source, sink = os.pipe()
+    os.set_blocking(sink, False)
+    try:
+        while os.write(sink, bytes(1)):
+            pass
+    except BlockingIOError:
+        os.set_blocking(sink, True)
+    return source, sink
+
+
+# What the kernel says of a process: whether it sleeps, and the time that it has had.
+def state_of(process):
+    fields = open(f'/proc/{process}/stat').read().rpartition(')')[2].split()
+    return fields[0], fields[11:13]
+
+
+# Ends a process as soon as it has slept for a second.
+def end_when_waiting(process):
+    slept, before = 0, None
+    try:
+        while slept < 10:
+            time.sleep(0.1)
+            state = state_of(process)
+            slept = slept + 1 if state[0] == 'S' and state == before else 0
+            before = state
+        os.kill(process, signal.SIGUSR1)
+    except OSError:
+        pass
+
+
+def waiting(keys, command):
+    source, sink = full_pipe()
+    os.dup2(sink, 1)
+    return memory(keys, command, lambda child: threading.Thread(target=end_when_waiting, args=(child,)).start())
 
 
 # ---- tracing
 
-# Runs a command; `stopped` is called whenever it stops, and gives the signal to go on with. Gives the command's status.
-def trace(command, options, going_on, stopped):
+# Runs a command; `begun` is called with its number, and `stopped` whenever it stops, which gives the signal to go on
+# with. Gives the command's status.
+def trace(command, options, going_on, stopped, begun=lambda child: None):
     child = os.fork()
     if child == 0:
         if libc.ptrace(TRACEME, 0, None, None) == 0:
             os.kill(os.getpid(), signal.SIGSTOP)
         os.execv(command[0], command)
+    begun(child)
     status = os.waitpid(child, os.WUNTRACED)[1]
     signal.signal(signal.SIGTERM, lambda number, frame: os.kill(child, number))
     libc.ptrace(SETOPTIONS, child, None, options | KILLED_WITH_US)
@@ -259,6 +300,8 @@ def terminal(how, command):
 what, words = sys.argv[1], sys.argv[2:]
 if what == 'memory':
     sys.exit(memory(words[0], words[1:]))
+elif what == 'waiting':
+    sys.exit(waiting(words[0], words[1:]))
 elif what == 'cut':
     sys.exit(cut(int(words[0]), words[1:]))
 elif what == 'core':
