@@ -3,3 +3,4 @@ pub mod Part
 pub mod Number
 pub mod Wrote
 pub mod First
+pub mod One
