@@ -9,3 +9,4 @@ pub mod Exchanges
 pub mod Walks
 pub mod Blocks
 pub mod Vectors
+pub mod Determined

@@ -4,3 +4,4 @@ pub mod TableLaws
 pub mod LetterLaws
 pub mod KeyLaws
 pub mod Within
+pub mod Determined

@@ -1,3 +1,4 @@
+pub mod Determined
 pub mod Ones
 pub mod Tests
 pub mod Calendar

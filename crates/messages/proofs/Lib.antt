@@ -4,3 +4,4 @@ pub mod Lengths
 pub mod Judging
 pub mod Bodies
 pub mod Claims
+pub mod Determined

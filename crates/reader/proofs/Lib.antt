@@ -9,3 +9,4 @@ pub mod PartLaws
 pub mod KsmParts
 pub mod Claims
 pub mod SeenBack
+pub mod Determined

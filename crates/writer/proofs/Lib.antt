@@ -3,3 +3,4 @@ pub mod Numerals
 pub mod Letters
 pub mod Services
 pub mod Subfields
+pub mod Determined
