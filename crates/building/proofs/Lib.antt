@@ -1,3 +1,4 @@
 pub mod Turning
 pub mod Judging
 pub mod Wording
+pub mod Determined

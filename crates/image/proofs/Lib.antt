@@ -1,3 +1,4 @@
+pub mod Determined
 pub mod Steps
 pub mod Entries
 pub mod Slots

@@ -7,3 +7,4 @@ pub mod Reading
 pub mod Turning
 pub mod KeyMessage
 pub mod Classes
+pub mod Determined
