@@ -1,80 +1,43 @@
--- Each contract of the C face determines its result and all that was lent: any two outcomes that it allows are equal.
-use mathlib.Core.Path.{_≡_, sym, _∙_}
-use Prim.Native.Nat.{ℕ}
-use lib.ListN.{length}
-use Rattle.octets.specs.Text.{Text}
-use Rattle.calls.specs.Outcome.{Outcome}
-use Rattle.calls.specs.Calls.{Call, receive, build-ksm, build-rsi, give-up}
-use Rattle.outcome.specs.Report.{report, replied}
-use Rattle.face.specs.Report.{report-bytes}
-use Rattle.face.specs.Request.{request-in}
-use Rattle.card.specs.Over.{outcome-over, image-over}
-use Rattle.card.specs.Whole.{ask-over, start-over, load-over, remove-over}
+-- Of each public function: any two outcomes that its contract allows are equal.
+use mathlib.Core.Path.{refl}
+use Rattle.octets.specs.One.{One-outcome}
+use Rattle.octets.proofs.Alike.{alike, _also_}
+use Rattle.host.proofs as fn
 
--- what a call leaves: its answer, the image, the buffer that it writes, the report
-pub record Left : Type 0 where
-  pub answer : ℕ
-  pub image : Text
-  pub buffer : Text
-  pub report : Text
+pub khl-receive : One-outcome fn.khl_receive.ended fn.khl_receive.Reads.Post
+khl-receive κs a x y v w (p, (q, (r, s))) (p′, (q′, (r′, s′))) =
+    (alike p p′, alike q q′ also refl also alike r r′ also alike s s′ also refl)
 
--- the clauses that every contract has: by an outcome, an image after the call and the buffer before it
-pub record Allowed (o : Outcome) (after before : Text) (l : Left) : Type 0 where
-  pub same-answer : l .answer ≡ o .answer
-  pub same-image : l .image ≡ after
-  pub same-buffer : l .buffer ≡ replied o before
-  pub same-report : l .report ≡ report-bytes (report o)
+pub khl-build-ksm : One-outcome fn.khl_build_ksm.ended fn.khl_build_ksm.Reads.Post
+khl-build-ksm κs a x y v w (p, (q, (r, s))) (p′, (q′, (r′, s′))) =
+    (alike p p′, alike q q′ also refl also refl also alike r r′ also alike s s′ also refl)
 
-pub determined : (o : Outcome) (after before : Text) (l m : Left)
-    → Allowed o after before l → Allowed o after before m → l ≡ m
-determined o after before l m p q = λ i. record {
-  answer = (p .same-answer ∙ sym (q .same-answer)) i;
-  image = (p .same-image ∙ sym (q .same-image)) i;
-  buffer = (p .same-buffer ∙ sym (q .same-buffer)) i;
-  report = (p .same-report ∙ sym (q .same-report)) i;
-}
+pub khl-build-rsi : One-outcome fn.khl_build_rsi.ended fn.khl_build_rsi.Reads.Post
+khl-build-rsi κs a x y v w (p, (q, r)) (p′, (q′, r′)) =
+    (alike p p′, refl also refl also refl also alike q q′ also alike r r′ also refl)
 
--- ---- the contracts, one by one; an image that is lent to read only, or a buffer that there is not, is as it was
+pub khl-ask : One-outcome fn.khl_ask.ended fn.khl_ask.Reads.Post
+khl-ask κs a x y v w (p, (q, r)) (p′, (q′, r′)) = (alike p p′, refl also refl also alike q q′ also alike r r′ also refl)
 
--- of receive, build a KSM and build an RSI
-abbrev pub Over : Text → Call → Text → Left → Type 0
-Over im c reply = Allowed (outcome-over im c) (image-over im c) reply
+pub khl-give-up : One-outcome fn.khl_give_up.ended fn.khl_give_up.Reads.Post
+khl-give-up κs a x y v w (p, (q, r)) (p′, (q′, r′)) = (alike p p′, alike q q′ also refl also alike r r′ also refl)
 
-pub khl-receive : (im text reply : Text) (l m : Left)
-    → Over im (receive (length reply) text) reply l → Over im (receive (length reply) text) reply m → l ≡ m
-khl-receive im text reply =
-    determined (outcome-over im (receive (length reply) text)) (image-over im (receive (length reply) text)) reply
+pub khl-start : One-outcome fn.khl_start.ended fn.khl_start.Reads.Post
+khl-start κs a x y v w (p, (q, r)) (p′, (q′, r′)) = (alike p p′, refl also alike q q′ also alike r r′ also refl)
 
-pub khl-build-ksm : (im id request reply : Text) (l m : Left)
-    → Over im (build-ksm (length reply) id (request-in request)) reply l
-    → Over im (build-ksm (length reply) id (request-in request)) reply m → l ≡ m
-khl-build-ksm im id request reply =
-    determined (outcome-over im (build-ksm (length reply) id (request-in request)))
-    (image-over im (build-ksm (length reply) id (request-in request))) reply
+pub khl-load : One-outcome fn.khl_load.ended fn.khl_load.Reads.Post
+khl-load κs a x y v w (p, (q, r)) (p′, (q′, r′)) =
+    (alike p p′, refl also refl also refl also refl also alike q q′ also alike r r′ also refl)
 
-pub khl-build-rsi : (im id service reply : Text) (l m : Left)
-    → Allowed (outcome-over im (build-rsi (length reply) id service)) im reply l
-    → Allowed (outcome-over im (build-rsi (length reply) id service)) im reply m → l ≡ m
-khl-build-rsi im id service reply = determined (outcome-over im (build-rsi (length reply) id service)) im reply
+pub khl-remove : One-outcome fn.khl_remove.ended fn.khl_remove.Reads.Post
+khl-remove κs a x y v w (p, (q, r)) (p′, (q′, r′)) =
+    (alike p p′, refl also refl also alike q q′ also alike r r′ also refl)
 
-pub khl-ask : (im id reply : Text) (l m : Left)
-    → Allowed (ask-over im (length reply) id) im reply l → Allowed (ask-over im (length reply) id) im reply m → l ≡ m
-khl-ask im id reply = determined (ask-over im (length reply) id) im reply
+pub khl-test-encipher : One-outcome fn.khl_test_encipher.ended fn.khl_test_encipher.Reads.Post
+khl-test-encipher κs a x y v w p q = (alike p q, refl)
 
--- no buffer: the clauses of the others
-pub khl-give-up : (im id none : Text) (l m : Left)
-    → Over im (give-up id) none l → Over im (give-up id) none m → l ≡ m
-khl-give-up im id none = determined (outcome-over im (give-up id)) (image-over im (give-up id)) none
+pub khl-test-decipher : One-outcome fn.khl_test_decipher.ended fn.khl_test_decipher.Reads.Post
+khl-test-decipher κs a x y v w p q = (alike p q, refl)
 
-pub khl-start : (own im out : Text) (l m : Left)
-    → Allowed (start-over own (length out)) im out l → Allowed (start-over own (length out)) im out m → l ≡ m
-khl-start own im out = determined (start-over own (length out)) im out
-
-pub khl-load : (im id name key out : Text) (l m : Left)
-    → Allowed (load-over im (length out) id name key) im out l
-    → Allowed (load-over im (length out) id name key) im out m → l ≡ m
-khl-load im id name key out = determined (load-over im (length out) id name key) im out
-
-pub khl-remove : (im id out : Text) (l m : Left)
-    → Allowed (remove-over im (length out) id) im out l → Allowed (remove-over im (length out) id) im out m → l ≡ m
-khl-remove im id out = determined (remove-over im (length out) id) im out
+pub khl-test-mac : One-outcome fn.khl_test_mac.ended fn.khl_test_mac.Reads.Post
+khl-test-mac κs a x y v w p q = (alike p q, refl)

@@ -3,3 +3,4 @@ pub mod Seeing
 pub mod Rows
 pub mod Finding
 pub mod Showing
+pub mod Determined
