@@ -1,0 +1,15 @@
+pub mod Telling
+pub mod Answers
+pub mod Ways
+pub mod Keeping
+pub mod Stepping
+pub mod First
+pub mod Starting
+pub mod Second
+pub mod Silence
+pub mod Contracts
+pub mod Ends
+pub mod Runs
+pub mod Reached
+pub mod Third
+pub mod Demands

@@ -1,0 +1,5 @@
+pub mod Face
+pub mod Contracts
+pub mod Terms
+pub mod Hosts
+pub mod Demands
