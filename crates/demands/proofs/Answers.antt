@@ -123,7 +123,8 @@ perform-gives t (build-ksm room id q) =
     by-case (Turns l) _ _ _ (λ _. is-in 12 l refl) (λ _. is-in 0 l refl)
 perform-gives t (build-rsi room id contents) =
     let l : List ℕ = 0 ∷ 3 ∷ 6 ∷ 12 ∷ 13 ∷ [] in
-    by-case (Gives l) _ _ _ (λ _. is-in 6 l refl) λ _. partner-gives l t id _ refl (λ e. service-turns (bare (t .own)) e contents)
+    by-case (Gives l) _ _ _ (λ _. is-in 6 l refl) λ _.
+    partner-gives l t id _ refl (λ e. service-turns (bare (t .own)) e contents)
 perform-gives t (give-up id) =
     let l : List ℕ = 0 ∷ 3 ∷ 5 ∷ 13 ∷ [] in
     partner-gives l t id _ refl λ e. by-case (Turns l) _ _ _ (λ _. is-in 5 l refl) (λ _. is-in 0 l refl)

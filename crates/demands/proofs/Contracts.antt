@@ -11,8 +11,16 @@ use Rattle.calls.specs.Calls.{run}
 use Rattle.calls.specs.Calls as steps
 use Rattle.outcome.specs.Report.{replied}
 use Rattle.card.specs.Over.{outcome-over}
+use Rattle.host.proofs.khl_receive.Met as receive
+use Rattle.host.proofs.khl_build_ksm.Met as build-ksm
+use Rattle.host.proofs.khl_build_rsi.Met as build-rsi
+use Rattle.host.proofs.khl_ask.Met as ask
+use Rattle.host.proofs.khl_give_up.Met as give-up
+use Rattle.host.proofs.khl_start.Met as start
+use Rattle.host.proofs.khl_load.Met as load
+use Rattle.host.proofs.khl_remove.Met as remove
 use Rattle.demands.specs.Face.{Left, left, leaves, start-leaves}
-use Rattle.demands.specs.Contracts.{Contracts}
+use Rattle.demands.specs.Contracts.{Contracts, Code}
 use Rattle.demands.proofs.Silence.{give-up-silent}
 
 -- part by part
@@ -43,4 +51,16 @@ contracts = record {
   starts = λ κs lent. (tt, λ answer end p. so (p .0) refl (p .1 .0) (p .1 .1));
   loads = λ κs lent. (tt, λ answer end p. so (p .0) refl (p .1 .0) (p .1 .1));
   removes = λ κs lent. (tt, λ answer end p. so (p .0) refl (p .1 .0) (p .1 .1));
+}
+
+pub code : Code
+code = record {
+  receives = receive.met;
+  builds-a-ksm = build-ksm.met;
+  builds-an-rsi = build-rsi.met;
+  asks = ask.met;
+  gives-up = give-up.met;
+  starts = start.met;
+  loads = load.met;
+  removes = remove.met;
 }

@@ -1,7 +1,7 @@
 -- One host's call, and the call that the card of crate `line` makes.
 use mathlib.Core.Path.{_≡_, refl, sym, ap, _∙_, subst}
 use mathlib.Core.List.{List, []}
-use mathlib.Core.Logic.{_≢_}
+use mathlib.Core.Logic.{_≢_, _↔_}
 use mathlib.Core.Option.{Option, none, some}
 use Prim.Native.Nat.{ℕ}
 use lib.Dec.{eqb}
@@ -123,13 +123,40 @@ module _ (name : Text) (top : Top) where
       subst (λ (x : steps.Call). line.Allowed name top other wrote x n) (some-inj e) tt
   allowed other wrote (load partner key-name key) room d n o e may = go (top-in key) refl e
     where
-      go : (k : Option Top) → top-in key ≡ k → loading partner key-name k ≡ some d → line.Allowed name top other wrote d n
+      go : (k : Option Top) → top-in key ≡ k → loading partner key-name k ≡ some d
+          → line.Allowed name top other wrote d n
       go none q e = absurd (none-some _ e)
       go (some k) q e =
           subst (λ (x : steps.Call). line.Allowed name top other wrote x n) (some-inj e)
           (λ z p. (may z p .0, some-inj (sym q ∙ may z p .1)))
   allowed other wrote (remove partner) room d n o e may =
       subst (λ (x : steps.Call). line.Allowed name top other wrote x n) (some-inj e) may
+
+  -- and the other way round
+  allowed-back : (other : Text) (wrote : List Text) (c : Call) (room : ℕ) (d : steps.Call) (answer : ℕ)
+      → step-of room c ≡ some d → line.Allowed name top other wrote d answer → Allowed name top other wrote c answer
+  unfolding Allowed line.Allowed
+  allowed-back other wrote (receive text) room d n e may =
+      subst (λ (x : steps.Call). line.Allowed name top other wrote x n) (sym (some-inj e)) may
+  allowed-back other wrote (build-ksm partner request) room d n e may = tt
+  allowed-back other wrote (build-rsi partner service) room d n e may = tt
+  allowed-back other wrote (ask partner) room d n e may = tt
+  allowed-back other wrote (give-up partner) room d n e may = tt
+  allowed-back other wrote (load partner key-name key) room d n e may = go (top-in key) refl e
+    where
+      go : (k : Option Top) → top-in key ≡ k → loading partner key-name k ≡ some d
+          → n ≡ 0 → partner ≡ other → (key-name ≡ name) × (top-in key ≡ some top)
+      go none q e z p = absurd (none-some _ e)
+      go (some k) q e z p =
+          let m = subst (λ (x : steps.Call). line.Allowed name top other wrote x n) (sym (some-inj e)) may in
+          (m z p .0, q ∙ ap {B = Option Top} some (m z p .1))
+  allowed-back other wrote (remove partner) room d n e may =
+      subst (λ (x : steps.Call). line.Allowed name top other wrote x n) (sym (some-inj e)) may
+
+  pub asked-alike : (other : Text) (wrote : List Text) (c : Call) (d : steps.Call) (room answer : ℕ) → Of-bytes c
+      → step-of room c ≡ some d → Allowed name top other wrote c answer ↔ line.Allowed name top other wrote d answer
+  asked-alike other wrote c d room n o e =
+      (allowed other wrote c room d n o e, allowed-back other wrote c room d n e)
 
   -- a call leaves an end as it was, or does what a call of the card of `line` does
   pub data Moves (other : Text) (wrote : List Text) (image : Text) (t : Table) (c : Call) (l : Left) : Type 0 where

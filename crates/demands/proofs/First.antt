@@ -1,6 +1,6 @@
 -- Demand 1.
 use mathlib.Core.Path.{_≡_, refl, sym, ap, _∙_, subst}
-use mathlib.Core.List.{[], _∷_, _++_, Memᴰ·cast}
+use mathlib.Core.List.{List, [], _∷_, _++_, Memᴰ·cast}
 use mathlib.Core.Logic.{_≢_}
 use mathlib.Core.Option.{Option, none, some}
 use Prim.Native.Nat.{ℕ}
@@ -29,7 +29,8 @@ use Rattle.card.proofs.Turning.{own-is}
 use Rattle.line.specs.Line.{_∈_}
 use Rattle.demands.specs.Face.{Call, receive, build-ksm, build-rsi, ask, give-up, load, remove, Left, left}
 use Rattle.demands.specs.Face.{leaves, start-leaves, written}
-use Rattle.demands.specs.Terms.{Bytes, Of-bytes, answers-of, refused, Complains, loading, step-of, in-bytes}
+use Rattle.demands.specs.Terms.{Bytes, Of-bytes, answers-of, refused, Complains, loading, step-of, showing}
+use Rattle.demands.specs.Terms.{in-bytes}
 use Rattle.demands.specs.Demands.{Demand-1}
 use Rattle.demands.proofs.Telling.{left-refusal, error-report, written-reply, rest-stays}
 use Rattle.demands.proofs.Answers.{is-in, run-gives}
@@ -40,26 +41,23 @@ use Rattle.demands.proofs.Stepping.{in-bytes-answer, short}
 
 -- ---- answers
 
+made : {c d : steps.Call} (l : List ℕ) (t : Table) → c ≡ d → run t c .outcome .answer ∈ l → run t d .outcome .answer ∈ l
+made l t p m = subst (λ (x : steps.Call). run t x .outcome .answer ∈ l) p m
+
 step-gives : (c : Call) (room : ℕ) (t : Table) (d : steps.Call) → step-of room c ≡ some d
     → run t d .outcome .answer ∈ answers-of c
-step-gives (receive text) room t d e =
-    subst (λ (x : steps.Call). run t x .outcome .answer ∈ answers-of (receive text)) (some-inj e) (run-gives t _)
-step-gives (build-ksm partner request) room t d e =
-    subst (λ (x : steps.Call). run t x .outcome .answer ∈ answers-of (build-ksm partner request)) (some-inj e) (run-gives t _)
-step-gives (build-rsi partner service) room t d e =
-    subst (λ (x : steps.Call). run t x .outcome .answer ∈ answers-of (build-rsi partner service)) (some-inj e) (run-gives t _)
-step-gives (ask partner) room t d e =
-    subst (λ (x : steps.Call). run t x .outcome .answer ∈ answers-of (ask partner)) (some-inj e) (run-gives t _)
-step-gives (give-up partner) room t d e =
-    subst (λ (x : steps.Call). run t x .outcome .answer ∈ answers-of (give-up partner)) (some-inj e) (run-gives t _)
+step-gives (receive text) room t d e = made _ t (some-inj e) (run-gives t _)
+step-gives (build-ksm partner request) room t d e = made _ t (some-inj e) (run-gives t _)
+step-gives (build-rsi partner service) room t d e = made _ t (some-inj e) (run-gives t _)
+step-gives (ask partner) room t d e = made _ t (some-inj e) (run-gives t _)
+step-gives (give-up partner) room t d e = made _ t (some-inj e) (run-gives t _)
 step-gives (load partner name key) room t d e = go (top-in key) e
   where
-    go : (o : Option Top) → loading partner name o ≡ some d → run t d .outcome .answer ∈ answers-of (load partner name key)
+    go : (o : Option Top) → loading partner name o ≡ some d
+        → run t d .outcome .answer ∈ answers-of (load partner name key)
     go none e = absurd (none-some _ e)
-    go (some top) e =
-        subst (λ (x : steps.Call). run t x .outcome .answer ∈ answers-of (load partner name key)) (some-inj e) (run-gives t _)
-step-gives (remove partner) room t d e =
-    subst (λ (x : steps.Call). run t x .outcome .answer ∈ answers-of (remove partner)) (some-inj e) (run-gives t _)
+    go (some top) e = made _ t (some-inj e) (run-gives t _)
+step-gives (remove partner) room t d e = made _ t (some-inj e) (run-gives t _)
 
 answers : (image buffer : Text) (c : Call) (l : Left) → Way image buffer c l → l .answer ∈ answers-of c
 unfolding left
@@ -83,11 +81,16 @@ module _ (image buffer : Text) (t : Table) (is : decode image ≡ some t) (n : �
   new : left (delivering (refuse t n)) image buffer ≡ refused n image buffer
   new = ap (λ (o : Outcome). left o image buffer) delivers ∙ left-refusal n image buffer
 
+  shows : (partner : Text) → showing partner (refuse t n) ≡ refusal n
+  unfolding showing
+  shows partner = if-false (eqb n 0) _ _ (ne-eqb n 0 not-done)
+
   refused-step : (c : Call) → stepped image buffer c (refuse t n) ≡ refused n image buffer
   refused-step (receive text) = stays
   refused-step (build-ksm partner request) = stays
   refused-step (build-rsi partner service) = left-refusal n image buffer
-  refused-step (ask partner) = left-refusal n image buffer
+  refused-step (ask partner) =
+      ap (λ (o : Outcome). left o image buffer) (shows partner) ∙ left-refusal n image buffer
   refused-step (give-up partner) = stays
   refused-step (load partner name key) = new
   refused-step (remove partner) = new
@@ -151,7 +154,8 @@ module _ (image text buffer : Text) (t : Table) (is : decode image ≡ some t)
     reading = q;
     message = k .message;
     error = ap read written-so ∙ k .written
-        ∙ ap (λ (us : Text). some (record { rcv = r .org; org = bare us; body = esm (k .message) })) (sym (own-is image t is));
+        ∙ ap (λ (us : Text). some (record { rcv = r .org; org = bare us; body = esm (k .message) }))
+        (sym (own-is image t is));
     some-letter = λ z. k .some-letter (sym (k .same-letters) ∙ z);
     no-edc = k .no-edc;
     told = error-report (after .outcome) (k .no-more)
@@ -174,8 +178,8 @@ errors : (image text buffer : Text) (l : Left) → Way image buffer (receive tex
 unfolding left
 errors image text buffer l (refuses n m h k) z = absurd (k z)
 errors image text buffer l (makes t d is e) z =
-    subst (λ (x : steps.Call). run t x .outcome .answer ≡ 4 → Complains image text (stepped image buffer (receive text) (run t x)))
-    (some-inj e) (errs image text buffer t is) z
+    subst (λ (x : steps.Call). run t x .outcome .answer ≡ 4
+    → Complains image text (stepped image buffer (receive text) (run t x))) (some-inj e) (errs image text buffer t is) z
 
 -- ---- the bytes behind a reply
 

@@ -17,7 +17,8 @@ use Rattle.line.specs.Line as line
 use Rattle.line.proofs.Theorem.{claims}
 use Rattle.demands.specs.Face.{Call, ask, leaves, kept, sent}
 use Rattle.demands.specs.Terms.{Bytes, entry-stored, entry-told}
-use Rattle.demands.specs.Hosts.{Hosts, counted, at-a, at-b, Reach, begin, step-a, step-b, Afresh, Distinct, Agreed}
+use Rattle.demands.specs.Hosts.{Hosts, counted, at-a, at-b, Reach, begin, step-a, step-b, Afresh, Distinct}
+use Rattle.demands.specs.Hosts.{Agreed}
 use Rattle.demands.proofs.Ways.{way}
 use Rattle.demands.proofs.Second.{stored-of, entry-is-told, told-is-stored}
 use Rattle.demands.proofs.Ends.{Moves, stays, moves, moved}

@@ -37,7 +37,8 @@ use Rattle.face.specs.Request.{request-in}
 use Rattle.card.specs.Whole.{largest}
 use Rattle.card.proofs.Turning.{own-is}
 use Rattle.demands.specs.Face.{Call, receive, build-ksm, ask, Left, left, leaves, start-leaves, written, kept}
-use Rattle.demands.specs.Terms.{Bytes, Of-bytes, our-identity, in-table, entry-stored, entry-told, refused, room-for, step-of}
+use Rattle.demands.specs.Terms.{Bytes, Of-bytes, our-identity, in-table, entry-stored, entry-told, refused}
+use Rattle.demands.specs.Terms.{room-for, step-of}
 use Rattle.demands.specs.Terms.{As-the-steps, tells, Exchange, built, taken, confirming, Exchanged}
 use Rattle.demands.specs.Demands.{Demand-2}
 use Rattle.demands.proofs.Ways.{no-image, no-room, no-key, no-key-but-10, by-steps, start-no-room}
@@ -125,7 +126,8 @@ module _ (image buffer partner : Text) (octets : Bytes image) where
 -- ---- start
 
 else-started : (own out : Text) → largest ≤ length out → is-name own ≡ true
-    → (t : Table) × (start-leaves own out .answer ≡ 0) × (decode (written (start-leaves own out)) ≡ some t) × Starts own t
+    → (t : Table) × (start-leaves own out .answer ≡ 0)
+    × (decode (written (start-leaves own out)) ≡ some t) × Starts own t
 unfolding left
 else-started own out r n =
     let (t, p, k) = refusals .else-started own n in
@@ -174,7 +176,8 @@ module _ (x : Exchange) (t u : Table) (e f : Entry) (a-bytes : Bytes (x .a)) (b-
   first-steps : As-the-steps (x .a) (x .first) building (step.after-built t u q room) (built x)
   first-steps =
       subst (λ (p : Text). As-the-steps (x .a) (x .first) building (run t (steps.build-ksm room p q)) (built x)) named
-      (as-the-steps (x .a) (x .first) t a-bytes a-is building (steps.build-ksm room (x .partner) q) request-bytes first refl)
+      (as-the-steps (x .a) (x .first) t a-bytes a-is building (steps.build-ksm room (x .partner) q) request-bytes
+      first refl)
 
   image-built : decode (built x .image) ≡ some (step.after-built t u q room .table)
   unfolding kept
@@ -183,7 +186,8 @@ module _ (x : Exchange) (t u : Table) (e f : Entry) (a-bytes : Bytes (x .a)) (b-
   bytes-built : Bytes (built x .image)
   unfolding kept
   bytes-built =
-      bytes-kept (x .a) (x .first) t a-bytes a-is building (steps.build-ksm room (x .partner) q) request-bytes first refl
+      bytes-kept (x .a) (x .first) t a-bytes a-is building (steps.build-ksm room (x .partner) q) request-bytes
+      first refl
 
   -- B receives
   taken-is : run u (steps.receive (length (x .second)) (written (built x))) ≡ step.after-taken t u q room
@@ -250,7 +254,7 @@ demand-2 = record {
   images = stored.claims;
   starred = numbers;
   steps = each-step;
-  in-order = order;
+  in-order = refusals;
   every-call = call.claims;
   no-image-is-13 = λ image buffer c h. no-image image buffer h c;
   no-room-is-6 = λ image buffer c t is. no-room image buffer t is c;

@@ -20,6 +20,7 @@ use Rattle.demands.specs.Demands.{Demand-3}
 use Rattle.demands.proofs.Ways.{Way, refuses, makes, way, Beginning, starts, beginning}
 use Rattle.demands.proofs.Starting.{start-is, started-read, started-bytes, written-started}
 use Rattle.demands.proofs.Stepping.{in-bytes-answer, as-stepped, kept-bytes}
+use Rattle.demands.proofs.Ends.{asked-alike}
 use Rattle.demands.proofs.Runs.{agreement, as-told, rise}
 use Rattle.demands.proofs.Reached.{confirms}
 
@@ -65,5 +66,6 @@ demand-3 a b name top = record {
       loads name top image buffer other key (leaves image buffer (load other name key)) octets o k
       (way image buffer (load other name key));
   confirmed-is-reached = confirms a b name top;
+  asked-alike = asked-alike name top;
   cards = claims a b name top;
 }

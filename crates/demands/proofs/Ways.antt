@@ -63,7 +63,7 @@ shown-entry t partner e lawful q =
     ap (showing partner) (refusals .asked-is-found t partner e lawful q)
     ∙ ap (λ (o : Option Entry). success (record-of o) nothing) q
 
-pub shown-so : (t : Table) (partner : Text) → legal t ≡ true
+shown-so : (t : Table) (partner : Text) → legal t ≡ true
     → body-of (steps.entry-of partner t) ≡ showing partner (run t (steps.ask partner))
 shown-so t partner lawful = go (steps.entry-of partner t) refl
   where

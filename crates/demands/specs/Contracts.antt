@@ -9,24 +9,32 @@ use denote.Triple.Clauses.{AtExit}
 use Rattle.octets.specs.Text.{Text}
 use Rattle.host.proofs.khl_receive.Kinds as of-receive
 use Rattle.host.proofs.khl_receive.Reads as khl-receive
+use Rattle.host.proofs.khl_receive.Statement as code-of-receive
 use Rattle.host.proofs.khl_build_ksm.Kinds as of-build-ksm
 use Rattle.host.proofs.khl_build_ksm.Reads as khl-build-ksm
+use Rattle.host.proofs.khl_build_ksm.Statement as code-of-build-ksm
 use Rattle.host.proofs.khl_build_rsi.Kinds as of-build-rsi
 use Rattle.host.proofs.khl_build_rsi.Reads as khl-build-rsi
+use Rattle.host.proofs.khl_build_rsi.Statement as code-of-build-rsi
 use Rattle.host.proofs.khl_ask.Kinds as of-ask
 use Rattle.host.proofs.khl_ask.Reads as khl-ask
+use Rattle.host.proofs.khl_ask.Statement as code-of-ask
 use Rattle.host.proofs.khl_give_up.Kinds as of-give-up
 use Rattle.host.proofs.khl_give_up.Reads as khl-give-up
+use Rattle.host.proofs.khl_give_up.Statement as code-of-give-up
 use Rattle.host.proofs.khl_start.Kinds as of-start
 use Rattle.host.proofs.khl_start.Reads as khl-start
+use Rattle.host.proofs.khl_start.Statement as code-of-start
 use Rattle.host.proofs.khl_load.Kinds as of-load
 use Rattle.host.proofs.khl_load.Reads as khl-load
+use Rattle.host.proofs.khl_load.Statement as code-of-load
 use Rattle.host.proofs.khl_remove.Kinds as of-remove
 use Rattle.host.proofs.khl_remove.Reads as khl-remove
+use Rattle.host.proofs.khl_remove.Statement as code-of-remove
 use Rattle.demands.specs.Face.{Left, receive, build-ksm, build-rsi, ask, give-up, load, remove, leaves}
 use Rattle.demands.specs.Face.{start-leaves}
 
--- a contract asks for nothing, and wherever it holds, what is seen of the end of a call is what is said of its beginning
+-- a contract asks for nothing, and wherever it holds, what is seen of a call's end is what is said of its beginning
 abbrev pub Says : (n : ℕ) (ps : List (PK n)) (r : RK n) → In n ps → Out n ps r
     → ((κs : Lfts n) → Dens κs ps → resT r κs .Denot → AtExit (endedOf n ps r) κs → Left)
     → ((κs : Lfts n) → Dens κs ps → Left) → Type 0
@@ -109,3 +117,14 @@ pub record Contracts : Type 0 where
         report = end .1 .1 .1 .0 .now;
       })
       (λ κs lent. leaves (lent .0 .now) (lent .1 .1 .0 .now) (remove (lent .1 .0 .now)))
+
+-- the code of each meets its contract: it runs safely to its end, whatever it is lent
+pub record Code : Type 2 where
+  pub receives : {M : Type 1} → code-of-receive.statement M
+  pub builds-a-ksm : {M : Type 1} → code-of-build-ksm.statement M
+  pub builds-an-rsi : {M : Type 1} → code-of-build-rsi.statement M
+  pub asks : {M : Type 1} → code-of-ask.statement M
+  pub gives-up : {M : Type 1} → code-of-give-up.statement M
+  pub starts : {M : Type 1} → code-of-start.statement M
+  pub loads : {M : Type 1} → code-of-load.statement M
+  pub removes : {M : Type 1} → code-of-remove.statement M

@@ -1,11 +1,10 @@
--- The three demands about the C face, each sentence with its theorem. Proved as `demands` in proofs/Demands.antt. That
--- every call ends, whatever it is lent, is proved with its contract, which asks for nothing.
+-- The three demands about the C face, each sentence with its theorem. Proved as `demands` in proofs/Demands.antt.
 use mathlib.Core.Path.{_≡_}
 use mathlib.Core.Bool.{true, false}
-use mathlib.Core.Logic.{_≢_}
-use mathlib.Core.List.{[], _∷_}
+use mathlib.Core.Logic.{_≢_, _↔_}
+use mathlib.Core.List.{List, [], _∷_}
 use mathlib.Core.Option.{none, some}
-use Prim.Native.Nat.{_<_, _≤_}
+use Prim.Native.Nat.{ℕ, _<_, _≤_}
 use lib.ListN.{length, drop}
 use Rattle.octets.specs.Text.{Text, is-name}
 use Rattle.octets.specs.Part.{bare}
@@ -30,10 +29,10 @@ use Rattle.card.specs.Whole.{largest, top-in}
 use Rattle.line.specs.Line.{_∈_, Rising}
 use Rattle.line.specs.Line as line
 use Rattle.demands.specs.Face.{Call, receive, ask, load, leaves, start-leaves, written, kept}
-use Rattle.demands.specs.Contracts.{Contracts}
+use Rattle.demands.specs.Contracts.{Contracts, Code}
 use Rattle.demands.specs.Terms.{Bytes, Of-bytes, our-identity, entry-stored, entry-told, answers-of, refused}
 use Rattle.demands.specs.Terms.{Complains, room-for, step-of, As-the-steps, Exchange, Exchanged}
-use Rattle.demands.specs.Hosts.{Hosts, Fresh, Afresh, Reach, Distinct, Agreed, Loaded, Confirms}
+use Rattle.demands.specs.Hosts.{Hosts, Allowed, Fresh, Afresh, Reach, Distinct, Agreed, Loaded, Confirms}
 
 -- 1. Every call, on every input, ends with one of document 01's answers. A refusal changes neither the table nor a byte
 -- of the reply buffer; answer 4 alone writes its error message, and changes no table.
@@ -58,8 +57,8 @@ pub record Demand-1 : Type 0 where
       → drop (length (written (start-leaves own out))) (start-leaves own out .buffer)
       ≡ drop (length (written (start-leaves own out))) out
 
--- 2. Messages, enciphered keys, counts and MACs are document 01's. Each text has at most one reading and each reading one
--- text; what one end builds the other reads back; each call changes the table exactly as the steps say.
+-- 2. Messages, enciphered keys, counts and MACs are document 01's. Each text has at most one reading and each reading
+-- one text; what one end builds the other reads back; each call changes the table exactly as the steps say.
 pub record Demand-2 : Type 0 where
   -- each text has at most one reading and each reading one text
   pub texts : csm.Claims
@@ -112,9 +111,9 @@ pub record Demand-2 : Type 0 where
       → step.Partners t u e f → Good-request e (request-in (x .request))
       → 256 ≤ length (x .first) → 256 ≤ length (x .second) → 256 ≤ length (x .third) → Exchanged x e
 
--- 3. Two cards, loaded afresh for each other, on a line that loses, delays, repeats and reorders: whenever A says its keys
--- to B are confirmed, B holds those very keys from A, with their names, under the same count; and the counts that B
--- accepts from A strictly rise.
+-- 3. Two cards, loaded afresh for each other, on a line that loses, delays, repeats and reorders: whenever A says its
+-- keys to B are confirmed, B holds those very keys from A, with their names, under the same count; and the counts that
+-- B accepts from A strictly rise.
 pub record Demand-3 (a b name : Text) (top : Top) : Type 0 where
   -- whenever A's image says confirmed for B, B's image holds those very keys
   pub agreement : {h₀ h : Hosts} → Afresh a b name top h₀ → Reach a b name top h₀ h → Distinct a b name top h
@@ -133,17 +132,22 @@ pub record Demand-3 (a b name : Text) (top : Top) : Type 0 where
       → Fresh name top own other (written (start-leaves own out))
   pub just-loaded : (image buffer other key : Text) → Bytes image → Bytes key → top-in key ≡ some top
       → leaves image buffer (load other name key) .answer ≡ 0
-      → Fresh name top (our-identity image) other (kept (load other name key) (leaves image buffer (load other name key)))
+      → Fresh name top (our-identity image) other
+      (kept (load other name key) (leaves image buffer (load other name key)))
   -- and it comes to that: once both are loaded, each good request of A's for B is confirmed in three calls
   pub confirmed-is-reached : (h : Hosts) (request buffer : Text) → Loaded a b name top h → Bytes request
       → Good-request (line.entry-for name top b) (request-in request) → 256 ≤ length buffer
       → Confirms a b name top h (request-in request)
+  -- of a call no more is asked than `line` asks of the steps that it makes
+  pub asked-alike : (other : Text) (wrote : List Text) (c : Call) (d : paper.Call) (room answer : ℕ) → Of-bytes c
+      → step-of room c ≡ some d → Allowed name top other wrote c answer ↔ line.Allowed name top other wrote d answer
   -- the same of the cards' tables; an old ESM after a resend is harmless
   pub cards : line.Claims a b name top
 
-pub record Demands : Type 0 where
-  -- `leaves` is what the contracts of `khl_*` say
-  pub face : Contracts
+pub record Demands : Type 2 where
+  -- the code of each `khl_*` meets its contract, and `leaves` is what the contracts say
+  pub code : Code
+  pub contracts : Contracts
   pub demand-1 : Demand-1
   pub demand-2 : Demand-2
   pub demand-3 : (a b name : Text) (top : Top) → Demand-3 a b name top

@@ -16,8 +16,8 @@ use Rattle.card.specs.Over.{outcome-over, image-over}
 use Rattle.card.specs.Whole.{ask-over, start-over, load-over, remove-over}
 use Rattle.line.specs.Line.{texts}
 
--- what a call is lent besides the image and a buffer: a text; or a partner's identity, and with it a request, a service,
--- or a key name and a key
+-- what a call is lent besides the image and a buffer: a text; or a partner's identity, and with it a request, a
+-- service, or a key name and a key
 pub data Call : Type 0 where
   receive : Text → Call
   build-ksm : Text → Text → Call

@@ -19,7 +19,8 @@ use Rattle.calls.specs.Results.{Keeps}
 use Rattle.card.specs.Whole.{top-in}
 use Rattle.line.specs.Line.{_∈_, count-from, a-to-b}
 use Rattle.line.specs.Line as line
-use Rattle.demands.specs.Face.{Call, receive, build-ksm, build-rsi, ask, give-up, load, remove, leaves, kept, sent}
+use Rattle.demands.specs.Face.{Call, receive, build-ksm, build-rsi, ask, give-up, load, remove, leaves, kept}
+use Rattle.demands.specs.Face.{sent}
 use Rattle.demands.specs.Terms.{Bytes, Of-bytes, entry-stored}
 
 -- both images; the texts that each card has written; the counts of the key messages from A that B accepted; the newest
@@ -55,7 +56,7 @@ at-a h buffer c = record {
 abbrev pub at-b : Text → Hosts → Text → Call → Hosts
 at-b a h buffer c = record {
   a = h .a;
-  b = h .b;
+  b = kept c (leaves (h .b) buffer c);
   from-a = h .from-a;
   from-b = sent c (leaves (h .b) buffer c) ++ h .from-b;
   accepted = counted a c (leaves (h .b) buffer c .answer) ++ h .accepted;
@@ -107,8 +108,8 @@ module _ (a b name : Text) (top : Top) where
   abbrev pub Distinct : Hosts → Type 0
   Distinct h = line.Distinct a b name top (h .from-a)
 
-  -- B's image holds the very keys of A's entry for it, with their names, under the count of the key message that carried
-  -- them
+  -- B's image holds the very keys of A's entry for it, with their names, under the count of the key message that
+  -- carried them
   pub record Agreed (h : Hosts) (for-b : Entry) : Type 0 where
     pub text : Text
     pub message : Ksm

@@ -78,8 +78,8 @@ answers-of (remove partner) = 0 ∷ 3 ∷ 6 ∷ 13 ∷ []
 abbrev pub refused : ℕ → Text → Text → Left
 refused n image buffer = record { answer = n; image = image; buffer = buffer; report = copies 32 0 }
 
--- an error about a text: the image as it was; an ESM to the text's originator; the report has its letters and its length
--- and is zero elsewhere
+-- an error about a text: the image as it was; an ESM to the text's originator; the report has its letters and its
+-- length and is zero elsewhere
 pub record Complains (image text : Text) (l : Left) : Type 0 where
   pub table-stays : l .image ≡ image
   pub about : Reading
