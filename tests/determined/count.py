@@ -3,8 +3,9 @@ has a `requires`.
 
 A function counts that code outside its crate can call: `pub fn`, `pub extern "C" fn` and a public method, in src/lib.rt, in
 an open module, or handed on by `pub use`. A program has none: nothing can call into it.
-Its statement stands in proofs/Determined.antt of its crate, under its name with hyphens, and is one of three (FORMS), of its
-own contract: the second of a function that hands out a part of what it was lent, whose contents alone are compared.
+Its statement stands in proofs/Determined.antt of its crate, under its name with hyphens, its module before it where two have
+one name. It is one of three (FORMS), of its own contract: the second of a function that hands out a part of what it was
+lent, whose contents alone are compared.
 Usage: count.py, from the top folder.
 """
 import re
@@ -118,8 +119,10 @@ def faults(crate, wanted):
         function = f"{crate.name}::{path.replace('.', '::')}"
         if asks:
             yield f"{function}: it has a requires"
-        kind = stated.pop(path.rpartition(".")[2].replace("_", "-"), None)
         forms = [form.format(f"fn.{path}") for form, of_a_part in FORMS.items() if of_a_part == part]
+        names = [name.replace("_", "-") for name in (path.rpartition(".")[2], path.replace(".", "-"))]
+        names = [name for name in names if stated.get(name) in forms] or names
+        kind = stated.pop(names[0], None)
         if kind is None:
             yield f"{function}: no statement in {crate}/proofs/Determined.antt"
         elif kind not in forms:
