@@ -8,10 +8,10 @@ use lib.Dec.{eqb}
 use borrow.Author.Tests.{eqb-true, eq-eqb, ne-eqb, lt-ltb}
 use Rattle.octets.specs.Text.{Text}
 use Rattle.octets.specs.Part.{bare}
-use Rattle.csm.specs.Message.{Ksm, Rsm, Esm, Rsi, rsi, ksm, rsm, esm}
+use Rattle.csm.specs.Message.{Body, Ksm, Rsm, Esm, Rsi, rsi, ksm, rsm, esm}
 use Rattle.partner.specs.declared.KeySet.{KeySet}
 use Rattle.partner.specs.declared.Entry.{Entry}
-use Rattle.partner.specs.Entry.{filled, limit, risen, waiting}
+use Rattle.partner.specs.Entry.{filled, limit, risen, waiting, broken, no-keys}
 use Rattle.partner.specs.Changes.{sending, receiving as receiving-side, accepted, issued, settled, given-up, failed}
 use Rattle.image.specs.Table.{Table, legal}
 use Rattle.calls.specs.declared.Request.{Request}
@@ -130,12 +130,17 @@ rsm-idle : (us : Text) (e : Entry) (text : Text) (m : Rsm) → is-waiting e ≡ 
 unfolding by-class.receive receive-rsm
 rsm-idle us e text m h = if-true (not (is-waiting e)) _ _ (ap not h)
 
+-- a message that is answered 5
+in-vain : (t : Table) (room : ℕ) (text id : Text) (b : Body) (e : Entry) → Comes t room id e
+    → Carries id (bare (t .own)) b text → by-class.receive (bare (t .own)) e text b ≡ refused e 5
+    → run t (receive room text) .outcome ≡ refusal 5
+in-vain t room text id b e g c p = ap (λ (a : After). a .outcome) (received t room text id b e (refused e 5) g c p)
+
 pub rsm-vain : (t : Table) (room : ℕ) (text id : Text) (m : Rsm) (e : Entry) → Comes t room id e
     → Carries id (bare (t .own)) (rsm m) text → (e .phase ≡ waiting → ⊥)
     → run t (receive room text) .outcome ≡ refusal 5
 rsm-vain t room text id m e g c h =
-    ap (λ (a : After). a .outcome)
-    (received t room text id (rsm m) e (refused e 5) g c (rsm-idle (bare (t .own)) e text m (waits-not e h)))
+    in-vain t room text id (rsm m) e g c (rsm-idle (bare (t .own)) e text m (waits-not e h))
 
 pub confirms : (t : Table) (room : ℕ) (text id : Text) (m : Rsm) (e : Entry) → Comes t room id e
     → Carries id (bare (t .own)) (rsm m) text → e .phase ≡ waiting → Sealed (e .outgoing) text (m .mac)
@@ -174,44 +179,40 @@ pub esm-vain : (t : Table) (room : ℕ) (text id : Text) (m : Esm) (e : Entry) �
     → Carries id (bare (t .own)) (esm m) text → (e .phase ≡ waiting → ⊥)
     → run t (receive room text) .outcome ≡ refusal 5
 esm-vain t room text id m e g c h =
-    ap (λ (a : After). a .outcome)
-    (received t room text id (esm m) e (refused e 5) g c (esm-idle (bare (t .own)) e text m (waits-not e h)))
+    in-vain t room text id (esm m) e g c (esm-idle (bare (t .own)) e text m (waits-not e h))
 
-breaks-so : (id : Text) (e : Entry) (m : Esm) (a : After) → a .outcome ≡ success [] (failure (m .erf))
-    → entry-of id (a .table) ≡ some (after-esm e m) → Breaks id e (raised-to (e .next) (m .ctp)) a
-unfolding given-up failed settled accepted issued sending receiving-side
-breaks-so id e m a o k = go (m .ctp) refl
+-- the sending side broken, with this next send count
+broken-with : (id : Text) (e : Entry) (n : ℕ) (a : After) → a .outcome .answer ≡ 0 → a .outcome .reply ≡ []
+    → entry-of id (a .table) ≡ some (sending e n broken no-keys) → Breaks id e n a
+unfolding sending
+broken-with id e n a z r k = record {
+  answered = z;
+  silent = r;
+  later = sending e n broken no-keys;
+  entry = k;
+  phase = refl;
+  outgoing = refl;
+  next = refl;
+  key-stays = record { identity = refl; name = refl; form = refl; left = refl; right = refl };
+  receiving-stays = record { count = refl; incoming = refl };
+}
+
+-- what an ESM leaves
+after-so : (e : Entry) (m : Esm) → after-esm e m ≡ sending e (raised-to (e .next) (m .ctp)) broken no-keys
+unfolding given-up failed
+after-so e m = go (m .ctp) refl
   where
-    go : (x : Option ℕ) → m .ctp ≡ x → Breaks id e (raised-to (e .next) (m .ctp)) a
-    go none p = rw p (record {
-      answered = ap (λ o. o .answer) o;
-      silent = ap (λ o. o .reply) o;
-      later = after-esm e m;
-      entry = k;
-      phase = rw p;
-      outgoing = rw p;
-      next = rw p;
-      key-stays = rw p (record { identity = refl; name = refl; form = refl; left = refl; right = refl });
-      receiving-stays = rw p (record { count = refl; incoming = refl });
-    })
-    go (some x) p = rw p (record {
-      answered = ap (λ o. o .answer) o;
-      silent = ap (λ o. o .reply) o;
-      later = after-esm e m;
-      entry = k;
-      phase = rw p;
-      outgoing = rw p;
-      next = rw p;
-      key-stays = rw p (record { identity = refl; name = refl; form = refl; left = refl; right = refl });
-      receiving-stays = rw p (record { count = refl; incoming = refl });
-    })
+    go : (o : Option ℕ) → m .ctp ≡ o → after-esm e m ≡ sending e (raised-to (e .next) (m .ctp)) broken no-keys
+    go none p = rw p
+    go (some x) p = rw p
 
 pub esm-so : (t : Table) (room : ℕ) (text id : Text) (m : Esm) (e : Entry) → Comes t room id e
     → Carries id (bare (t .own)) (esm m) text → e .phase ≡ waiting
     → Breaks id e (raised-to (e .next) (m .ctp)) (run t (receive room text))
 esm-so t room text id m e g c w =
     let r = esm-breaking t room text id m e (g .lawful) (g .roomy) c (g .known) (waits e w) in
-    breaks-so id e m (run t (receive room text)) (r .0) (r .1)
+    broken-with id e (raised-to (e .next) (m .ctp)) (run t (receive room text)) (ap (λ o. o .answer) (r .0))
+    (ap (λ o. o .reply) (r .0)) (r .1 ∙ ap {B = Option Entry} some (after-so e m))
 
 pub esm-told : (t : Table) (room : ℕ) (text id : Text) (m : Esm) (e : Entry) → Comes t room id e
     → Carries id (bare (t .own)) (esm m) text → e .phase ≡ waiting
@@ -243,17 +244,9 @@ pub give-up-so : (t : Table) (id : Text) (e : Entry) → legal t ≡ true → en
 unfolding given-up sending
 give-up-so t id e l k w =
     subst (Breaks id e (e .next))
-    (sym (give-up-turns t id e l k ∙ ap (put-back t id) (given-up-turn e (waits e w)))) (record {
-      answered = refl;
-      silent = refl;
-      later = given-up e;
-      entry = turned-after t id e (given-up e) (entry-held t id e k) refl;
-      phase = refl;
-      outgoing = refl;
-      next = refl;
-      key-stays = record { identity = refl; name = refl; form = refl; left = refl; right = refl };
-      receiving-stays = record { count = refl; incoming = refl };
-    })
+    (sym (give-up-turns t id e l k ∙ ap (put-back t id) (given-up-turn e (waits e w))))
+    (broken-with id e (e .next) (put-back t id (done (given-up e) [] nothing)) refl refl
+    (turned-after t id e (given-up e) (entry-held t id e k) refl))
 
 -- ---- an RSI
 
