@@ -1,12 +1,15 @@
 -- The order of answers: a number that is not 0 is a refusal, and where it is 0 none of the conditions holds.
 use mathlib.Core.Path.{_≡_, refl, sym, ap, _∙_}
-use mathlib.Core.Bool.{Bool, true, false, not, _&&_}
+use mathlib.Core.Bool.{Bool, true, false, cond, not, _&&_}
 use mathlib.Core.Option.{Option, none, some}
-use Prim.Native.Nat.{ℕ, suc, _≤_, _<_}
+use mathlib.Core.List.{[], _∷_}
+use Prim.Native.Nat.{ℕ, _≤_, _<_}
 use native.Mathlib.Omega.{arith}
-use lib.Dec.{ltb}
-use borrow.Author.Tests.{not-false, ltb-true, ltb-false, lt-ltb, le-ltb}
+use lib.Dec.{eqb}
+use borrow.Author.Tests.{not-false, ne-eqb, ltb-true, ltb-false, lt-ltb, le-ltb}
 use Rattle.octets.specs.Text.{Text, same}
+use Rattle.octets.specs.First.{Order, first}
+use Rattle.octets.proofs.Firsts.{holds-first}
 use Rattle.csm.specs.Format.{value}
 use Rattle.csm.specs.Fields.{svr}
 use Rattle.csm.specs.Message.{rsi, print}
@@ -21,8 +24,10 @@ use Rattle.calls.specs.Outcome.{Turn, nothing, refused, done}
 use Rattle.calls.specs.Receive.{to-partner}
 use Rattle.calls.specs.Build.{malformed, outgoing-of, ksm-text}
 use Rattle.calls.specs.Build as calls
-use Rattle.calls.proofs.Tests.{by-case, if-true, if-false}
+use Rattle.calls.specs.Words.{if_then_else_}
+use Rattle.calls.proofs.Tests.{if-true, if-false}
 use Rattle.outcome.specs.Acts.{sound, guarded, build-ksm, build-rsi}
+use Rattle.building.specs.Order as order
 use Rattle.building.specs.Parts.{rsi-text, Ready}
 
 -- a request that is answered 0
@@ -32,49 +37,49 @@ pub record Good (own : Text) (e : Entry) (room : ℕ) (q : Request) (t : Turn) :
   pub formed : malformed q ≡ false
   pub turn : t ≡ done (issued e (outgoing-of q)) (ksm-text own e q) nothing
 
--- a refusal by the number n
-abbrev Refuses : Entry → ℕ → Turn → Type 0
-Refuses e n t = t .outcome .answer ≡ n → t ≡ refused e n
+-- none of these tests holds, test by test
+abbrev All-false : Order → Type 0
+All-false [] = Unit {0}
+All-false (o ∷ ts) = (o .0 ≡ false) × All-false ts
 
-refusing : (e : Entry) (k n : ℕ) → Refuses e n (refused e k)
-refusing e k n p = ap (refused e) p
+-- the first that holds refuses; where none does, the last turn
+record Walks (e : Entry) (last t : Turn) (ts : Order) : Type 0 where
+  turn : t ≡ cond (eqb (first ts) 0) last (refused e (first ts))
+  passed : first ts ≡ 0 → All-false ts
 
--- 0, where the request is good
-abbrev Allows : Text → Entry → ℕ → Request → Turn → Type 0
-Allows own e room q t = t .outcome .answer ≡ 0 → Good own e room q t
+-- a step that asks a test first, beside the order that has it first
+asks : {e : Entry} {last t : Turn} {ts : Order} (b : Bool) (n : ℕ) → (n ≡ 0 → ⊥) → Walks e last t ts
+    → Walks e last (if b then refused e n else t) ((b, n) ∷ ts)
+unfolding if_then_else_
+asks {ts = ts} true n z w = record {
+  turn = rw (holds-first n ts z, ne-eqb n 0 z);
+  passed = λ p. absurd (z (sym (holds-first n ts z) ∙ p));
+}
+asks false n z w = record { turn = w .turn; passed = λ p. (refl, w .passed p) }
 
 module _ (own : Text) (e : Entry) (room : ℕ) (q : Request) where
-  pub refused-by : (n : ℕ) → build-ksm own e room q .outcome .answer ≡ n → (n ≡ 0 → ⊥)
+  walk : Walks e (done (issued e (outgoing-of q)) (ksm-text own e q) nothing) (build-ksm own e room q)
+      (order.build-ksm own e room q)
+  unfolding build-ksm guarded calls.build-ksm order.build-ksm
+  walk =
+      asks _ 13 (λ h. omega arith) (asks _ 6 (λ h. omega arith) (asks _ 7 (λ h. omega arith)
+      (asks _ 8 (λ h. omega arith) (asks _ 11 (λ h. omega arith) (asks _ 12 (λ h. omega arith)
+      (record { turn = refl; passed = λ p. tt }))))))
+
+  pub refused-by : (n : ℕ) → first (order.build-ksm own e room q) ≡ n → (n ≡ 0 → ⊥)
       → build-ksm own e room q ≡ refused e n
-  unfolding build-ksm guarded calls.build-ksm
-  refused-by n p z =
-      let P = Refuses e n in
-      by-case P _ _ _ (λ _. refusing e 13 n) (λ _.
-      by-case P _ _ _ (λ _. refusing e 6 n) (λ _.
-      by-case P _ _ _ (λ _. refusing e 7 n) (λ _.
-      by-case P _ _ _ (λ _. refusing e 8 n) (λ _.
-      by-case P _ _ _ (λ _. refusing e 11 n) (λ _.
-      by-case P _ _ _ (λ _. refusing e 12 n) (λ _. λ d. absurd (z (sym d)))))))) p
+  refused-by n p z = walk .turn ∙ rw (p, ne-eqb n 0 z)
 
   -- none of 13, 6, 7, 8, 11, 12
-  pub good : build-ksm own e room q .outcome .answer ≡ 0 → Good own e room q (build-ksm own e room q)
-  unfolding build-ksm guarded calls.build-ksm
+  pub good : first (order.build-ksm own e room q) ≡ 0 → Good own e room q (build-ksm own e room q)
+  unfolding order.build-ksm
   good p =
-      let P = Allows own e room q in
-      by-case P (not (sound own e)) _ _ (λ _. never e 12) (λ s.
-      by-case P (ltb room 256) _ _ (λ _. never e 5) (λ r.
-      by-case P _ _ _ (λ _. never e 6) (λ _.
-      by-case P _ _ _ (λ _. never e 7) (λ _.
-      by-case P _ _ _ (λ _. never e 10) (λ _.
-      by-case P (malformed q) _ _ (λ _. never e 11) (λ m. λ _. record {
-        is-sound = not-false (sound own e) s;
-        roomy = ltb-false room 256 r;
-        formed = m;
-        turn = refl;
-      })))))) p
-    where
-      never : (e : Entry) (k : ℕ) → suc k ≡ 0 → Good own e room q (refused e (suc k))
-      never e k h = absurd (omega arith)
+      let f = walk .passed p in record {
+        is-sound = not-false (sound own e) (f .0);
+        roomy = ltb-false room 256 (f .1 .0);
+        formed = f .1 .1 .1 .1 .1 .0;
+        turn = walk .turn ∙ rw p;
+      }
 
 -- ---- an RSI
 

@@ -1,12 +1,13 @@
 // Build a KSM, build an RSI, give up, once the partner's entry is found: on one entry by value.
 ghost use mathlib.Core.Path.{_≡_};
 ghost use lib.ListN.{length};
+ghost use Rattle.octets.specs.First.{first};
 ghost use Rattle.outcome.specs.Report as report;
 ghost use Rattle.outcome.specs.Acts as acts;
 ghost use Rattle.calls.specs.Build as building;
+ghost use Rattle.building.specs.Order as order;
 use calls::Request;
 use fields::Number;
-use outcome::Telling;
 use outcome::Turned;
 use partner::Entry;
 
@@ -15,27 +16,14 @@ mod request;
 
 // The answer of building a KSM, in the order of document 01: 13, 6, 7, 8, 11, 12, or 0.
 fn judge(own: &[u8], e: Entry, q: Request, room: usize) -> u32
-    ensures { λ r. ⌜ r ≡ acts.build-ksm (now (own .entry)) e room q .outcome .answer ⌝ }
+    ensures { λ r. ⌜ r ≡ first (order.build-ksm (now (own .entry)) e room q) ⌝ }
 {
-    if !outcome::is_sound(own, e) {
-        return 13;
-    }
-    if room < 256 {
-        return 6;
-    }
-    if e.phase == 1 {
-        return 7;
-    }
-    if e.next == 99_999_999 {
-        return 8;
-    }
-    if request::any_not_odd(q) {
-        return 11;
-    }
-    if request::malformed(q) {
-        return 12;
-    }
-    0
+    let a = octets::then(0, !outcome::is_sound(own, e), 13);
+    let b = octets::then(a, room < 256, 6);
+    let c = octets::then(b, e.phase == 1, 7);
+    let d = octets::then(c, e.next == 99_999_999, 8);
+    let f = octets::then(d, request::any_not_odd(q), 11);
+    octets::then(f, request::malformed(q), 12)
 }
 
 // Build a KSM: the message with the next send count, which rises by one; outgoing keys set; phase 1.
@@ -48,8 +36,10 @@ pub fn build_ksm(own: &[u8], e: Entry, q: Request, reply: &mut [u8]) -> Turned
         return outcome::refused(e, answer);
     }
     let n = message::write(own, e, q, reply);
-    let issued = partner::issued(e, message::outgoing(q));
-    outcome::done(issued, n, Telling::Nothing, outcome::no_date())
+    Turned {
+        entry: partner::issued(e, message::outgoing(q)),
+        report: outcome::told_nothing(n),
+    }
 }
 
 // Build an RSI for the service whose contents of SVR these are; it changes nothing.
@@ -67,7 +57,10 @@ pub fn build_rsi(own: &[u8], e: Entry, contents: &[u8], reply: &mut [u8]) -> Tur
         return outcome::refused(e, 12);
     };
     let n = message::write_rsi(own, e, value, reply);
-    outcome::done(e, n, Telling::Nothing, outcome::no_date())
+    Turned {
+        entry: e,
+        report: outcome::told_nothing(n),
+    }
 }
 
 // Give up: 5 where nothing is waiting, else phase 3 and keys wiped.
@@ -77,10 +70,8 @@ pub fn give_up(e: Entry) -> Turned
     if e.phase != 1 {
         return outcome::refused(e, 5);
     }
-    outcome::done(
-        partner::given_up(e),
-        0,
-        Telling::Nothing,
-        outcome::no_date(),
-    )
+    Turned {
+        entry: partner::given_up(e),
+        report: outcome::told_nothing(0),
+    }
 }

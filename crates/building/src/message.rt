@@ -2,8 +2,9 @@
 ghost use mathlib.Core.Path.{_≡_};
 ghost use Prim.Native.Nat.{_<_};
 ghost use lib.ListN.{length};
-ghost use Rattle.outcome.specs.Acts as acts;
+ghost use Rattle.octets.specs.First.{first};
 ghost use Rattle.calls.specs.Build as building;
+ghost use Rattle.building.specs.Order as order;
 ghost use Rattle.building.specs.Parts as parts;
 use calls::KeyRequest;
 use calls::Request;
@@ -95,7 +96,7 @@ fn vector(q: Request) -> Vector
 
 // The KSM of a good request over the front of the reply buffer, with the next send count; its length.
 pub(crate) fn write(own: &[u8], e: Entry, q: Request, reply: &mut [u8]) -> usize
-    requires { ⌜ acts.build-ksm (now own) e (length (now reply)) q .outcome .answer ≡ 0 ⌝ }
+    requires { ⌜ first (order.build-ksm (now own) e (length (now reply)) q) ≡ 0 ⌝ }
     ensures { λ r. ⌜ r ≡ length (building.ksm-text (now (own .entry)) e q) ⌝ }
     ensures { λ r. ⌜ now (reply .exit) ≡ parts.fronted (building.ksm-text (now (own .entry)) e q) (now (reply .entry)) ⌝ }
 {

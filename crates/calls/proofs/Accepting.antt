@@ -17,7 +17,7 @@ use Rattle.partner.specs.declared.KeySet.{KeySet}
 use Rattle.partner.specs.declared.Entry.{Entry}
 use Rattle.partner.specs.Entry.{limit, filled, keys-in}
 use Rattle.partner.specs.Changes.{sending, receiving as receiving-side, accepted, issued, settled, given-up, failed}
-use Rattle.image.specs.Table.{Table, legal, put}
+use Rattle.partner.specs.Table.{Table, legal, put}
 use Rattle.calls.specs.declared.Request.{Request}
 use Rattle.calls.specs.Words.{any}
 use Rattle.calls.specs.Outcome.{Turn, nothing, keys, confirmation, failure, success, done}
@@ -28,8 +28,8 @@ use Rattle.calls.specs.Receive.{bad-count, iv-of, judged, receive-ksm, i
 use Rattle.calls.specs.Receive.{receive-esm}
 use Rattle.calls.specs.Build as building
 use Rattle.calls.specs.Build.{outgoing-of, ksm-text}
-use Rattle.calls.specs.Calls.{receive, build-ksm, After, entry-of, turned, at-partner, receiving}
-use Rattle.image.specs.Table.{holding}
+use Rattle.calls.specs.Calls.{receive, about, build-ksm, After, entry-of, turned, at-partner, receiving}
+use Rattle.partner.specs.Table.{holding}
 use Rattle.calls.specs.Calls.{perform, run}
 use Rattle.calls.specs.Claims.{Carries}
 use Rattle.calls.proofs.Passing.{Passes, Taken-in, Fit}
@@ -56,7 +56,7 @@ module _ (t : Table) (lawful : legal t ≡ true) (room : ℕ) (roomy : 256 ≤ r
       ∙ partner-turns (λ e. by-class.receive (bare (t .own)) e text b)
 
   pub build-turns : (q : Request)
-      → run t (build-ksm room id q) ≡ turned t id (λ e. building.build-ksm (bare (t .own)) e q) (some e)
+      → run t (about id (build-ksm room q)) ≡ turned t id (λ e. building.build-ksm (bare (t .own)) e q) (some e)
   unfolding run perform
   build-turns q =
       if-true (legal t) _ _ lawful ∙ if-false (ltb room 256) _ _ (le-ltb room 256 roomy)
@@ -179,7 +179,7 @@ build-turn us e q g =
 
 pub request-built : (t : Table) (room : ℕ) (id : Text) (q : Request) (e : Entry) → legal t ≡ true → 256 ≤ room
     → entry-of id t ≡ some e → Fit e q
-    → (run t (build-ksm room id q)
+    → (run t (about id (build-ksm room q))
     ≡ record {
       outcome = success (ksm-text (bare (t .own)) e q) nothing;
       table = holding t (put (filled id) (issued e (outgoing-of q)) (t .slots));

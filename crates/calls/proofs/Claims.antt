@@ -4,7 +4,7 @@ use mathlib.Core.Logic.{_⊎_, inl, inr}
 use Rattle.octets.specs.Text.{Text}
 use Rattle.octets.specs.Part.{bare}
 use Rattle.keying.specs.declared.Top.{Top}
-use Rattle.calls.specs.Calls.{Call, receive, build-ksm, build-rsi, give-up, load, remove, ask, run}
+use Rattle.calls.specs.Calls.{Call, receive, about, load, run}
 use Rattle.calls.specs.Claims.{Claims, Of-one-entry, subject, Writes}
 use Rattle.calls.proofs.Effects.{run-effect}
 use Rattle.calls.proofs.Laws.{keeps, bares, complains, writes, owns, rows, legals, counts}
@@ -13,12 +13,8 @@ use Rattle.calls.proofs.Silence.{silent}
 
 all-but : (c : Call) → Of-one-entry c ⊎ ((id name : Text) × (top : Top) × (c ≡ load id name top))
 all-but (receive room text) = inl tt
-all-but (build-ksm room id q) = inl tt
-all-but (build-rsi room id contents) = inl tt
-all-but (give-up id) = inl tt
+all-but (about id a) = inl tt
 all-but (load id name top) = inr (id, name, top, refl)
-all-but (remove id) = inl tt
-all-but (ask id) = inl tt
 
 pub claims : Claims
 claims = record {

@@ -17,7 +17,7 @@ use Rattle.partner.specs.declared.Entry.{Entry}
 use Rattle.partner.specs.Entry.{limit, waiting}
 use Rattle.partner.specs.Legal as partner
 use Rattle.partner.proofs.Keeping.{rules}
-use Rattle.image.specs.Table.{Table, legal}
+use Rattle.partner.specs.Table.{Table, legal}
 use Rattle.calls.specs.Words.{any}
 use Rattle.calls.specs.Outcome.{F, I, K, M, O, P, Turn}
 use Rattle.calls.specs.Receive as by-class

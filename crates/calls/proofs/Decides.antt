@@ -4,7 +4,6 @@ use mathlib.Core.Bool.{Bool, true, false, not}
 use mathlib.Core.List.{List}
 use mathlib.Core.Option.{Option, none, some}
 use Prim.Native.Nat.{ℕ}
-use lib.Dec.{ltb}
 use Rattle.octets.specs.Text.{Text, same}
 use Rattle.octets.specs.Part.{bare}
 use Rattle.csm.specs.Message.{Reading, read}
@@ -12,12 +11,12 @@ use Rattle.csm.proofs.TextLaws.{none-some, some-inj}
 use Rattle.csm.proofs.MessageLaws.{read-back, legal-parts as reading-parts}
 use Rattle.partner.specs.declared.Entry.{Entry}
 use Rattle.partner.specs.Legal as partner
-use Rattle.image.specs.Table.{Table, legal}
+use Rattle.partner.specs.Table.{Table, legal}
 use Rattle.calls.specs.Words.{if_then_else_}
 use Rattle.calls.specs.Outcome.{Turn}
-use Rattle.calls.specs.Calls.{Call, receive, build-ksm, build-rsi, give-up, load, remove, ask, After, refuse}
-use Rattle.calls.specs.Calls.{entry-of, turned, at-partner, receiving, emptied, perform, run}
-use Rattle.image.specs.Table.{holding}
+use Rattle.calls.specs.Calls.{Act, build-ksm, build-rsi, give-up, remove, ask, Call, receive, about, load, After, refuse}
+use Rattle.calls.specs.Calls.{entry-of, turned, at-partner, receiving, emptied, short, no-room, acting, perform, run}
+use Rattle.partner.specs.Table.{holding}
 use Rattle.calls.specs.Claims.{sender, subject, Of-one-entry}
 use Rattle.calls.proofs.Turns.{Does, does-change, change-identity, receive-does, build-ksm-does}
 use Rattle.calls.proofs.Turns.{build-rsi-does, give-up-does}
@@ -85,21 +84,23 @@ module _ (t : Table) (s : List Entry) (lawful : legal t ≡ true) (lawful′ : l
       (receive-does (bare (t .own)) e (own-name t lawful) l text (r .body)
       (reading-parts r (read-back text r q .0) .body))))
 
+  alike-act : (a : Act) (id : Text) → entry-of id t ≡ entry-of id (holding t s)
+      → Alike id (at-partner t id (acting (bare (t .own)) a)) (at-partner (holding t s) id (acting (bare (t .own)) a))
+  alike-act (build-ksm room q) id h =
+      alike-partner id h _ (λ e l. does-keeping _ (build-ksm-does (bare (t .own)) e (own-name t lawful) l q))
+  alike-act (build-rsi room svr) id h =
+      alike-partner id h _ (λ e l. does-keeping _ (build-rsi-does (bare (t .own)) e (own-name t lawful) l svr))
+  alike-act give-up id h = alike-partner id h _ (λ e l. does-keeping _ (give-up-does (bare (t .own)) e))
+  alike-act remove id h = alike-remove id h
+  alike-act ask id h = alike-partner id h _ (λ e l. refl)
+
   alike-perform : (c : Call) → Of-one-entry c → entry-of (subject c) t ≡ entry-of (subject c) (holding t s)
       → Alike (subject c) (perform t c) (perform (holding t s) c)
   unfolding perform subject
   alike-perform (receive room text) o h =
-      alike-if (sender (read text)) h (ltb room 256) _ _ 6 (alike-receive text (read text) refl h)
-  alike-perform (build-ksm room id q) o h =
-      alike-if id h (ltb room 256) _ _ 6
-      (alike-partner id h _ (λ e l. does-keeping _ (build-ksm-does (bare (t .own)) e (own-name t lawful) l q)))
-  alike-perform (build-rsi room id svr) o h =
-      alike-if id h (ltb room 256) _ _ 6
-      (alike-partner id h _ (λ e l. does-keeping _ (build-rsi-does (bare (t .own)) e (own-name t lawful) l svr)))
-  alike-perform (give-up id) o h = alike-partner id h _ (λ e l. does-keeping _ (give-up-does (bare (t .own)) e))
+      alike-if (sender (read text)) h (short room) _ _ 6 (alike-receive text (read text) refl h)
+  alike-perform (about id a) o h = alike-if id h (no-room a) _ _ 6 (alike-act a id h)
   alike-perform (load id name top) o h = absurd o
-  alike-perform (remove id) o h = alike-remove id h
-  alike-perform (ask id) o h = alike-partner id h _ (λ e l. refl)
 
   alike-run : (c : Call) → Of-one-entry c → entry-of (subject c) t ≡ entry-of (subject c) (holding t s)
       → Alike (subject c) (run t c) (run (holding t s) c)

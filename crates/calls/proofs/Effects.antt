@@ -1,6 +1,6 @@
 -- All that a call can do to a table.
 use mathlib.Core.Path.{_≡_, refl, subst}
-use mathlib.Core.Bool.{true}
+use mathlib.Core.Bool.{Bool, true}
 use mathlib.Core.List.{List, [], _∷_}
 use mathlib.Core.Option.{Option, none, some}
 use Prim.Native.Nat.{ℕ}
@@ -9,9 +9,7 @@ use Rattle.octets.specs.Text.{Text, is-name}
 use Rattle.octets.specs.Part.{bare}
 use Rattle.keying.specs.declared.Top.{Top}
 use Rattle.keying.specs.Keys.{odd-top}
-use Rattle.csm.specs.Format.{value}
-use Rattle.csm.specs.Fields.{svr}
-use Rattle.csm.specs.Message.{Reading, Ksm, ksm, rsi, read}
+use Rattle.csm.specs.Message.{Reading, read}
 use Rattle.csm.proofs.TextLaws.{and-true}
 use Rattle.csm.proofs.MessageLaws.{read-back, legal-parts as reading-parts}
 use Rattle.partner.specs.declared.Entry.{Entry}
@@ -19,13 +17,13 @@ use Rattle.partner.specs.Entry.{empty, filled, name-of}
 use Rattle.partner.specs.Legal as partner
 use Rattle.partner.specs.Changes.{loaded}
 use Rattle.partner.proofs.Claims.{claims}
-use Rattle.image.specs.Table.{Table, legal, identities, differs, put, place}
+use Rattle.partner.specs.Table.{Table, legal, identities, differs, put, place}
 use Rattle.calls.specs.Outcome.{success, nothing, Turn}
-use Rattle.calls.specs.Calls.{Call, receive, build-ksm, build-rsi, give-up, load, remove, ask, After, refuse}
+use Rattle.calls.specs.Calls.{Act, build-ksm, build-rsi, give-up, remove, ask, Call, receive, about, load, After, refuse}
 use Rattle.calls.specs.Calls.{entry-of, turned, at-partner, with-room, receiving, placed, loading}
-use Rattle.image.specs.Table.{holding}
-use Rattle.calls.specs.Calls.{emptied, perform, run}
-use Rattle.calls.specs.Claims.{Carries, Answers, Answers-text, Writes, sender, subject}
+use Rattle.partner.specs.Table.{holding}
+use Rattle.calls.specs.Calls.{emptied, short, no-room, acting, perform, run}
+use Rattle.calls.specs.Claims.{Answers, Answers-text, Sends, Writes, sender, subject}
 use Rattle.calls.proofs.Tests.{by-case}
 use Rattle.calls.proofs.Turns.{Does, does, stays, refusing, receive-does, build-ksm-does, build-rsi-does}
 use Rattle.calls.proofs.Turns.{give-up-does}
@@ -61,9 +59,9 @@ module _ (t : Table) (lawful : legal t ≡ true) where
           (subst (λ (n : Text). Does (bare (t .own)) e (R n) (turn e)) (k .bare-identity)
           (h e (held-legal t id e lawful k)))
 
-  room-effect : (id : Text) (R : Text → Type 0) (room : ℕ) (a : After) → Effect t id R a
-      → Effect t id R (with-room t room a)
-  room-effect id R room a h = by-case (Effect t id R) _ _ _ (λ _. refuses 6 refl) (λ _. h)
+  room-effect : (id : Text) (R : Text → Type 0) (too-short : Bool) (a : After) → Effect t id R a
+      → Effect t id R (with-room t too-short a)
+  room-effect id R too-short a h = by-case (Effect t id R) _ _ _ (λ _. refuses 6 refl) (λ _. h)
 
   receive-effect : (text : Text) (o : Option Reading) → read text ≡ o
       → Effect t (sender o) (Answers-text (bare (t .own)) o) (receiving t text o)
@@ -82,6 +80,18 @@ module _ (t : Table) (lawful : legal t ≡ true) where
       go : (o : Option Entry) → entry-of id t ≡ o → Effect t id (λ s. s ≡ []) (turned t id emptied o)
       go none q = refuses 3 refl
       go (some e) q = empties e lawful (entry-held t id e q) refl
+
+  act-effect : (a : Act) (id : Text)
+      → Effect t id (Sends (bare (t .own)) id a) (at-partner t id (acting (bare (t .own)) a))
+  act-effect (build-ksm room q) id =
+      partner-effect id (λ them. Sends (bare (t .own)) them (build-ksm room q)) _
+      (λ e l. build-ksm-does (bare (t .own)) e (own-name t lawful) l q)
+  act-effect (build-rsi room contents) id =
+      partner-effect id (λ them. Sends (bare (t .own)) them (build-rsi room contents)) _
+      (λ e l. build-rsi-does (bare (t .own)) e (own-name t lawful) l contents)
+  act-effect give-up id = partner-effect id (λ them s. s ≡ []) _ (λ e l. give-up-does (bare (t .own)) e)
+  act-effect remove id = remove-effect id
+  act-effect ask id = partner-effect id (λ them s. s ≡ []) _ (λ e l. does e [] _ stays refl)
 
   loaded-identity : (id name : Text) (top : Top) → loaded (name-of id) (name-of name) top .identity .bytes ≡ filled id
   unfolding loaded
@@ -109,19 +119,9 @@ module _ (t : Table) (lawful : legal t ≡ true) where
 
   perform-effect : (c : Call) → Effect t (subject c) (Writes (bare (t .own)) c) (perform t c)
   unfolding perform subject
-  perform-effect (receive room text) = room-effect _ _ room _ (receive-effect text (read text) refl)
-  perform-effect (build-ksm room id q) =
-      room-effect id _ room _ (partner-effect id (λ them s. (x : Ksm) × Carries (bare (t .own)) them (ksm x) s) _
-      (λ e l. build-ksm-does (bare (t .own)) e (own-name t lawful) l q))
-  perform-effect (build-rsi room id contents) =
-      room-effect id _ room _ (partner-effect id
-      (λ them s. (x : ℕ) × (value svr contents ≡ some x)
-      × Carries (bare (t .own)) them (rsi (record { svr = x; edc = none })) s) _
-      (λ e l. build-rsi-does (bare (t .own)) e (own-name t lawful) l contents))
-  perform-effect (give-up id) = partner-effect id (λ them s. s ≡ []) _ (λ e l. give-up-does (bare (t .own)) e)
+  perform-effect (receive room text) = room-effect _ _ (short room) _ (receive-effect text (read text) refl)
+  perform-effect (about id a) = room-effect id _ (no-room a) _ (act-effect a id)
   perform-effect (load id name top) = load-effect id name top
-  perform-effect (remove id) = remove-effect id
-  perform-effect (ask id) = partner-effect id (λ them s. s ≡ []) _ (λ e l. does e [] _ stays refl)
 
 pub run-effect : (t : Table) (c : Call) → Effect t (subject c) (Writes (bare (t .own)) c) (run t c)
 unfolding run

@@ -27,7 +27,7 @@ use Rattle.partner.specs.declared.KeySet.{KeySet}
 use Rattle.partner.specs.declared.Entry.{Entry}
 use Rattle.partner.specs.Entry.{name-of, top-of, keys-in, one-key, two-keys}
 use Rattle.partner.specs.Changes.{sending, issued}
-use Rattle.image.specs.Table.{Table}
+use Rattle.partner.specs.Table.{Table}
 use Rattle.calls.specs.declared.KeyRequest.{KeyRequest}
 use Rattle.calls.specs.declared.Request.{Request}
 use Rattle.calls.specs.Words.{if_then_else_, any, some-has}

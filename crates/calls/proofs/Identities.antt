@@ -11,7 +11,7 @@ use Rattle.csm.proofs.TextLaws.{and-true, same-true, same-refl}
 use Rattle.partner.specs.declared.Entry.{Entry}
 use Rattle.partner.specs.Entry.{empty}
 use Rattle.partner.specs.Legal as partner
-use Rattle.image.specs.Table.{is-empty, slots-legal, identities, differs, apart, find, put, behind, place}
+use Rattle.partner.specs.Table.{is-empty, slots-legal, identities, differs, apart, find, put, behind, place}
 use Rattle.calls.specs.Claims.{kept, placed, Row, next}
 use Rattle.calls.proofs.Tests.{never, and-join}
 use Rattle.calls.proofs.Slots.{empty-is, empty-nobody, legal-slot, slot-of, slots-of, row-same}

@@ -15,14 +15,14 @@ use Rattle.partner.specs.declared.Entry.{Entry}
 use Rattle.partner.specs.Entry.{keys-in}
 use Rattle.partner.specs.Legal as partner
 use Rattle.partner.proofs.Keeping.{rules}
-use Rattle.image.specs.Table.{Table, legal}
+use Rattle.partner.specs.Table.{Table, legal}
 use Rattle.calls.specs.declared.Request.{Request}
 use Rattle.calls.specs.Outcome.{F, M, P, Turn}
 use Rattle.calls.specs.Receive as by-class
 use Rattle.calls.specs.Receive.{brought, when, faults, bad-format, bad-mac, bad-count}
 use Rattle.calls.specs.Receive.{judged, receive-ksm, is-waiting, receive-rsm}
 use Rattle.calls.specs.Build as building
-use Rattle.calls.specs.Calls.{receive, build-ksm, After, entry-of, turned, at-partner, receiving, perform, run}
+use Rattle.calls.specs.Calls.{receive, about, build-ksm, After, entry-of, turned, at-partner, receiving, perform, run}
 use Rattle.calls.specs.Claims.{Carries}
 use Rattle.calls.proofs.Passing.{Passes, Fit}
 use Rattle.calls.proofs.Tests.{or-split, by-case}
@@ -59,7 +59,7 @@ module _ (t : Table) (id : Text) (e : Entry) (known : entry-of id t ≡ some e) 
 
   build-only : (room : ℕ) (q : Request)
       → (legal t ≡ true → building.build-ksm (bare (t .own)) e q .outcome .answer ≡ 0 → X)
-      → Only X (run t (build-ksm room id q))
+      → Only X (run t (about id (build-ksm room q)))
   unfolding run perform
   build-only room q h =
       by-case (Only X) _ _ _
@@ -145,7 +145,7 @@ build-only-good us e q l =
     λ z. record { free = w; not-last = short-of-last (e .next) (rules e l .next-right) n; parity = p; formed = f }
 
 pub built-is-good : (t : Table) (room : ℕ) (id : Text) (q : Request) (e : Entry) → entry-of id t ≡ some e
-    → run t (build-ksm room id q) .outcome .answer ≡ 0 → Fit e q
+    → run t (about id (build-ksm room q)) .outcome .answer ≡ 0 → Fit e q
 built-is-good t room id q e k =
     build-only t id e k (Fit e q) room q
     (λ l. build-only-good (bare (t .own)) e q (held-legal t id e l (entry-held t id e k)))

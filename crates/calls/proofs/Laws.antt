@@ -14,10 +14,10 @@ use Rattle.partner.specs.declared.Entry.{Entry}
 use Rattle.partner.specs.Entry.{empty, filled}
 use Rattle.partner.specs.Legal as partner
 use Rattle.partner.proofs.Claims.{claims}
-use Rattle.image.specs.Table.{Table, legal, slots-legal, identities, differs, apart, put}
+use Rattle.partner.specs.Table.{Table, legal, slots-legal, identities, differs, apart, put}
 use Rattle.calls.specs.Outcome.{Turn, refusal}
 use Rattle.calls.specs.Calls.{After, entry-of}
-use Rattle.image.specs.Table.{holding}
+use Rattle.partner.specs.Table.{holding}
 use Rattle.calls.specs.Claims.{Row, Complains}
 use Rattle.calls.proofs.Tests.{and-join}
 use Rattle.calls.proofs.Turns.{refusing-not-0, refusing-not-4}

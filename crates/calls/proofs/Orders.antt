@@ -4,7 +4,7 @@ use mathlib.Core.Bool.{Bool, true, false, not}
 use mathlib.Core.List.{List, [], _∷_}
 use mathlib.Core.Option.{Option, none, some}
 use Prim.Native.Nat.{ℕ}
-use lib.Dec.{eqb, ltb}
+use lib.Dec.{eqb}
 use borrow.Author.Tests.{eqb-true, eqb-false}
 use Rattle.octets.specs.Text.{Text, same, is-name, stands}
 use Rattle.octets.specs.Part.{bare}
@@ -18,7 +18,7 @@ use Rattle.csm.specs.Message.{Body, rsi, ksm, rsm, esm, option, Reading, read, 
 use Rattle.partner.specs.declared.Entry.{Entry}
 use Rattle.partner.specs.Entry.{limit, name-of}
 use Rattle.partner.specs.Changes.{loaded}
-use Rattle.image.specs.Table.{Table, legal, place}
+use Rattle.partner.specs.Table.{Table, legal, place}
 use Rattle.calls.specs.declared.Request.{Request}
 use Rattle.calls.specs.Words.{if_then_else_, any}
 use Rattle.calls.specs.Outcome.{Turn}
@@ -26,9 +26,9 @@ use Rattle.calls.specs.Receive as steps
 use Rattle.calls.specs.Receive.{foreign, uneven, kds, brought, faults, bad-mac, is-waiting}
 use Rattle.calls.specs.Build as building
 use Rattle.calls.specs.Build.{used, not-odd, malformed}
-use Rattle.calls.specs.Calls.{Call, receive, build-ksm, build-rsi, give-up, load, remove, ask, After, entry-of}
-use Rattle.calls.specs.Calls.{turned, at-partner, receiving, bad-identity, loading, placed, emptied, told, perform, run}
-use Rattle.calls.specs.Orders.{by-class, of-key-message, of-service, of-giving-up, about, of-text, in-order, order}
+use Rattle.calls.specs.Calls.{Act, build-ksm, build-rsi, give-up, remove, ask, Call, receive, about, load, After, entry-of}
+use Rattle.calls.specs.Calls.{turned, at-partner, receiving, bad-identity, loading, placed, short, no-room, acting, perform, run}
+use Rattle.calls.specs.Orders.{by-class, by-act, at-entry, of-text, in-order, order, act-answers}
 use Rattle.calls.specs.Orders.{answers, Orders}
 
 -- no number here is 0
@@ -71,35 +71,40 @@ class-first own e text (rsm m) =
 class-first own e text (esm m) = asks (not (is-waiting e)) 5 _ _ refl refl (done refl)
 class-first own e text (option c w) = record { is = refl }
 
-key-message-first : (own : Text) (e : Entry) (q : Request) → Walks of-turn (building.build-ksm own e q) (of-key-message q e)
+key-message-first : (own : Text) (e : Entry) (room : ℕ) (q : Request)
+    → Walks of-turn (building.build-ksm own e q) (by-act (build-ksm room q) e)
 unfolding building.build-ksm
-key-message-first own e q =
+key-message-first own e room q =
     asks (is-waiting e) 7 _ _ refl refl
     (asks (eqb (e .next) limit) 8 _ _ refl refl
     (asks (any not-odd (used q)) 11 _ _ refl refl (asks (malformed q) 12 _ _ refl refl (done refl))))
 
-service-first : (own : Text) (e : Entry) (contents : Text)
-    → Walks of-turn (building.build-rsi own e contents) (of-service contents e)
+service-first : (own : Text) (e : Entry) (room : ℕ) (contents : Text)
+    → Walks of-turn (building.build-rsi own e contents) (by-act (build-rsi room contents) e)
 unfolding building.build-rsi
-service-first own e contents = go (value svr contents) refl
+service-first own e room contents = go (value svr contents) refl
   where
     go : (o : Option ℕ) → value svr contents ≡ o
         → Walks of-turn (building.build-rsi own e contents) ((not (found (value svr contents)), 12) ∷ [])
     go none p = record { is = rw (p, building.build-rsi) }
     go (some s) p = record { is = rw (p, building.build-rsi) }
 
-giving-up-first : (e : Entry) → Walks of-turn (building.give-up e) (of-giving-up e)
+act-first : (own : Text) (a : Act) (e : Entry) → Walks of-turn (acting own a e) (by-act a e)
 unfolding building.give-up
-giving-up-first e = asks (not (is-waiting e)) 5 _ _ refl refl (done refl)
+act-first own (build-ksm room q) e = key-message-first own e room q
+act-first own (build-rsi room contents) e = service-first own e room contents
+act-first own give-up e = asks (not (is-waiting e)) 5 _ _ refl refl (done refl)
+act-first own remove e = done refl
+act-first own ask e = done refl
 
 -- ---- of a call
 
 about-first : (t : Table) (id : Text) (turn : Entry → Turn) (rest : Entry → Order)
-    → ((e : Entry) → Walks of-turn (turn e) (rest e)) → Walks of-call (at-partner t id turn) (about (entry-of id t) rest)
+    → ((e : Entry) → Walks of-turn (turn e) (rest e)) → Walks of-call (at-partner t id turn) (at-entry (entry-of id t) rest)
 unfolding at-partner
 about-first t id turn rest h = go (entry-of id t)
   where
-    go : (o : Option Entry) → Walks of-call (turned t id turn o) (about o rest)
+    go : (o : Option Entry) → Walks of-call (turned t id turn o) (at-entry o rest)
     go none = record { is = refl }
     go (some e) = record { is = h e .is }
 
@@ -125,19 +130,11 @@ load-first t id name top =
 
 perform-first : (t : Table) (c : Call) → Walks of-call (perform t c) (in-order t c)
 unfolding perform
-perform-first t (receive room text) = asks (ltb room 256) 6 _ _ refl refl (text-first t text (read text))
-perform-first t (build-ksm room id q) =
-    asks (ltb room 256) 6 _ _ refl refl
-    (about-first t id (λ e. building.build-ksm (bare (t .own)) e q) (of-key-message q)
-    (λ e. key-message-first (bare (t .own)) e q))
-perform-first t (build-rsi room id contents) =
-    asks (ltb room 256) 6 _ _ refl refl
-    (about-first t id (λ e. building.build-rsi (bare (t .own)) e contents) (of-service contents)
-    (λ e. service-first (bare (t .own)) e contents))
-perform-first t (give-up id) = about-first t id building.give-up of-giving-up giving-up-first
+perform-first t (receive room text) = asks (short room) 6 _ _ refl refl (text-first t text (read text))
+perform-first t (about id a) =
+    asks (no-room a) 6 _ _ refl refl
+    (about-first t id (acting (bare (t .own)) a) (by-act a) (act-first (bare (t .own)) a))
 perform-first t (load id name top) = load-first t id name top
-perform-first t (remove id) = about-first t id emptied (λ e. []) (λ e. done refl)
-perform-first t (ask id) = about-first t id told (λ e. []) (λ e. done refl)
 
 is-first : (t : Table) (c : Call) → run t c .outcome .answer ≡ first (order t c)
 unfolding run if_then_else_
@@ -157,7 +154,15 @@ numbered-class e text (rsm m) = more _ 5 _ (not-0 5 refl) (more _ 4 _ (not-0 4 r
 numbered-class e text (esm m) = more _ 5 _ (not-0 5 refl) end
 numbered-class e text (option c w) = more _ 4 _ (not-0 4 refl) end
 
-numbered-about : (o : Option Entry) (rest : Entry → Order) → ((e : Entry) → Numbered (rest e)) → Numbered (about o rest)
+numbered-act : (a : Act) (e : Entry) → Numbered (by-act a e)
+numbered-act (build-ksm room q) e =
+    more _ 7 _ (not-0 7 refl) (more _ 8 _ (not-0 8 refl) (more _ 11 _ (not-0 11 refl) (more _ 12 _ (not-0 12 refl) end)))
+numbered-act (build-rsi room contents) e = more _ 12 _ (not-0 12 refl) end
+numbered-act give-up e = more _ 5 _ (not-0 5 refl) end
+numbered-act remove e = end
+numbered-act ask e = end
+
+numbered-about : (o : Option Entry) (rest : Entry → Order) → ((e : Entry) → Numbered (rest e)) → Numbered (at-entry o rest)
 numbered-about none rest h = more _ 3 _ (not-0 3 refl) end
 numbered-about (some e) rest h = h e
 
@@ -169,32 +174,26 @@ numbered-text t text (some r) =
 
 numbered-in : (t : Table) (c : Call) → Numbered (in-order t c)
 numbered-in t (receive room text) = more _ 6 _ (not-0 6 refl) (numbered-text t text (read text))
-numbered-in t (build-ksm room id q) =
-    more _ 6 _ (not-0 6 refl) (numbered-about (entry-of id t) (of-key-message q) (λ e.
-    more _ 7 _ (not-0 7 refl) (more _ 8 _ (not-0 8 refl) (more _ 11 _ (not-0 11 refl) (more _ 12 _ (not-0 12 refl) end)))))
-numbered-in t (build-rsi room id contents) =
-    more _ 6 _ (not-0 6 refl)
-    (numbered-about (entry-of id t) (of-service contents) (λ e. more _ 12 _ (not-0 12 refl) end))
-numbered-in t (give-up id) = numbered-about (entry-of id t) of-giving-up (λ e. more _ 5 _ (not-0 5 refl) end)
+numbered-in t (about id a) = more _ 6 _ (not-0 6 refl) (numbered-about (entry-of id t) (by-act a) (numbered-act a))
 numbered-in t (load id name top) =
     more _ 10 _ (not-0 10 refl)
     (more _ 12 _ (not-0 12 refl) (more _ 11 _ (not-0 11 refl) (more _ 9 _ (not-0 9 refl) end)))
-numbered-in t (remove id) = numbered-about (entry-of id t) (λ e. []) (λ e. end)
-numbered-in t (ask id) = numbered-about (entry-of id t) (λ e. []) (λ e. end)
 
 numbered : (t : Table) (c : Call) → Numbered (order t c)
 numbered t c = more _ 13 _ (not-0 13 refl) (numbered-in t c)
 
 -- ---- each call's own answers
 
--- every number of the order is in the list
+-- every number of the order that may be given is in the list
 data Within (l : List ℕ) : Order → Type 0 where
   nil : Within l []
+  never : (n : ℕ) (ts : Order) → Within l ts → Within l ((false, n) ∷ ts)
   cons : (b : Bool) (n : ℕ) (ts : Order) → stands n l ≡ true → Within l ts → Within l ((b, n) ∷ ts)
 
 -- so what the order gives is 0 or in the list
 within-first : (l : List ℕ) (ts : Order) → stands 0 l ≡ true → Within l ts → stands (first ts) l ≡ true
 within-first l ts z nil = z
+within-first l ts z (never n rest w) = within-first l rest z w
 within-first l ts z (cons false n rest i w) = within-first l rest z w
 within-first l ts z (cons true n rest i w) = go (eqb n 0) refl (within-first l rest z w)
   where
@@ -211,7 +210,7 @@ within-class l e text (esm m) f s = cons _ 5 _ s nil
 within-class l e text (option c w) f s = cons _ 4 _ f nil
 
 within-about : (l : List ℕ) (o : Option Entry) (rest : Entry → Order) → stands 3 l ≡ true
-    → ((e : Entry) → Within l (rest e)) → Within l (about o rest)
+    → ((e : Entry) → Within l (rest e)) → Within l (at-entry o rest)
 within-about l none rest i h = cons _ 3 _ i nil
 within-about l (some e) rest i h = h e
 
@@ -222,28 +221,37 @@ within-text t text (some r) l a b c f s =
     cons _ 2 _ b (within-about l (entry-of (r .org) t) (λ e. by-class e text (r .body)) c
     (λ e. within-class l e text (r .body) f s))
 
+within-act : (a : Act) (e : Entry) → Within (act-answers a) (by-act a e)
+within-act (build-ksm room q) e = cons _ 7 _ refl (cons _ 8 _ refl (cons _ 11 _ refl (cons _ 12 _ refl nil)))
+within-act (build-rsi room contents) e = cons _ 12 _ refl nil
+within-act give-up e = cons _ 5 _ refl nil
+within-act remove e = nil
+within-act ask e = nil
+
+-- 6 where it may be given, 3 always
+within-order : (a : Act) (o : Option Entry) → Within (act-answers a) ((no-room a, 6) ∷ at-entry o (by-act a))
+within-order (build-ksm room q) o = cons _ 6 _ refl (within-about _ o (by-act (build-ksm room q)) refl (within-act (build-ksm room q)))
+within-order (build-rsi room contents) o =
+    cons _ 6 _ refl (within-about _ o (by-act (build-rsi room contents)) refl (within-act (build-rsi room contents)))
+within-order give-up o = never 6 _ (within-about _ o (by-act give-up) refl (within-act give-up))
+within-order remove o = never 6 _ (within-about _ o (by-act remove) refl (within-act remove))
+within-order ask o = never 6 _ (within-about _ o (by-act ask) refl (within-act ask))
+
 within-in : (t : Table) (c : Call) → Within (answers c) (in-order t c)
 within-in t (receive room text) = cons _ 6 _ refl (within-text t text (read text) _ refl refl refl refl refl)
-within-in t (build-ksm room id q) =
-    cons _ 6 _ refl (within-about _ (entry-of id t) (of-key-message q) refl
-    (λ e. cons _ 7 _ refl (cons _ 8 _ refl (cons _ 11 _ refl (cons _ 12 _ refl nil)))))
-within-in t (build-rsi room id contents) =
-    cons _ 6 _ refl (within-about _ (entry-of id t) (of-service contents) refl (λ e. cons _ 12 _ refl nil))
-within-in t (give-up id) = within-about _ (entry-of id t) of-giving-up refl (λ e. cons _ 5 _ refl nil)
+within-in t (about id a) = within-order a (entry-of id t)
 within-in t (load id name top) =
     cons _ 10 _ refl (cons _ 12 _ refl (cons _ 11 _ refl (cons _ 9 _ refl nil)))
-within-in t (remove id) = within-about _ (entry-of id t) (λ e. []) refl (λ e. nil)
-within-in t (ask id) = within-about _ (entry-of id t) (λ e. []) refl (λ e. nil)
 
 -- 0 and 13 are every call's
 pub has-0 : (c : Call) → (stands 0 (answers c) ≡ true) × (stands 13 (answers c) ≡ true)
 has-0 (receive room text) = (refl, refl)
-has-0 (build-ksm room id q) = (refl, refl)
-has-0 (build-rsi room id contents) = (refl, refl)
-has-0 (give-up id) = (refl, refl)
+has-0 (about id (build-ksm room q)) = (refl, refl)
+has-0 (about id (build-rsi room contents)) = (refl, refl)
+has-0 (about id give-up) = (refl, refl)
+has-0 (about id remove) = (refl, refl)
+has-0 (about id ask) = (refl, refl)
 has-0 (load id name top) = (refl, refl)
-has-0 (remove id) = (refl, refl)
-has-0 (ask id) = (refl, refl)
 
 papers : (t : Table) (c : Call) → stands (run t c .outcome .answer) (answers c) ≡ true
 papers t c =

@@ -21,12 +21,12 @@ use Rattle.partner.specs.declared.Entry.{Entry}
 use Rattle.partner.specs.Entry.{filled, name-of, top-of, empty}
 use Rattle.partner.specs.Changes.{loaded}
 use Rattle.partner.proofs.Claims.{claims}
-use Rattle.image.specs.Table.{Table, legal, is-empty, identities, differs, find, put, place, behind, holding, empties}
+use Rattle.partner.specs.Table.{Table, legal, is-empty, identities, differs, find, put, place, behind, holding, empties}
 use Rattle.calls.specs.Words.{if_then_else_}
 use Rattle.calls.specs.Outcome.{Turn, success, nothing, refused}
 use Rattle.calls.specs.Receive as by-class
 use Rattle.calls.specs.Build as building
-use Rattle.calls.specs.Calls.{Call, receive, build-ksm, build-rsi, give-up, load, remove, ask, After, refuse, start}
+use Rattle.calls.specs.Calls.{Call, receive, about, build-ksm, build-rsi, give-up, load, remove, ask, After, refuse, start}
 use Rattle.calls.specs.Calls.{entry-of, turned, at-partner, receiving, bad-identity, loading, placed, emptied, told}
 use Rattle.calls.specs.Calls.{perform, run}
 use Rattle.calls.specs.Good.{Good-identity}
@@ -52,6 +52,10 @@ cramped t room a h = if-true (ltb room 256) _ _ (lt-ltb room 256 h)
 
 roomy : (t : Table) (room : ℕ) (a : After) → 256 ≤ room → (if ltb room 256 then refuse t 6 else a) ≡ a
 roomy t room a h = if-false (ltb room 256) _ _ (le-ltb room 256 h)
+
+-- an act without a reply asks for none
+unasked : (t : Table) (a : After) → (if false then refuse t 6 else a) ≡ a
+unasked t a = if-false false _ _ refl
 
 -- ---- 1, 2, 3
 
@@ -103,10 +107,10 @@ same-table t id e k = λ j. record {
 }
 
 service-refused : (t : Table) (room : ℕ) (id contents : Text) (e : Entry) → legal t ≡ true → 256 ≤ room
-    → entry-of id t ≡ some e → value svr contents ≡ none → run t (build-rsi room id contents) ≡ refuse t 12
+    → entry-of id t ≡ some e → value svr contents ≡ none → run t (about id (build-rsi room contents)) ≡ refuse t 12
 unfolding perform at-partner
 service-refused t room id contents e l r k h =
-    lawful t (build-rsi room id contents) l ∙ roomy t room _ r
+    lawful t (about id (build-rsi room contents)) l ∙ roomy t room _ r
     ∙ ap (turned t id (λ e. building.build-rsi (bare (t .own)) e contents)) k
     ∙ (λ j. record {
       outcome = no-service (bare (t .own)) e contents h j .outcome;
@@ -115,17 +119,17 @@ service-refused t room id contents e l r k h =
     ∙ (λ j. record { outcome = refused e 12 .outcome; table = same-table t id e k j })
 
 gone : (t : Table) (id : Text) (e : Entry) → legal t ≡ true → entry-of id t ≡ some e
-    → (run t (remove id) .outcome ≡ success [] nothing) × (entry-of id (run t (remove id) .table) ≡ none)
+    → (run t (about id remove) .outcome ≡ success [] nothing) × (entry-of id (run t (about id remove) .table) ≡ none)
 unfolding perform at-partner
 gone t id e l k =
-    let p = lawful t (remove id) l ∙ ap (turned t id emptied) k in
+    let p = lawful t (about id remove) l ∙ unasked t _ ∙ ap (turned t id emptied) k in
     (ap (λ (a : After). a .outcome) p, ap (λ (a : After). entry-of id (a .table)) p ∙ emptied-after t id e l (entry-held t id e k))
 
 is-found : (t : Table) (id : Text) (e : Entry) → legal t ≡ true → entry-of id t ≡ some e
-    → run t (ask id) ≡ record { outcome = success [] nothing; table = t }
+    → run t (about id ask) ≡ record { outcome = success [] nothing; table = t }
 unfolding perform at-partner
 is-found t id e l k =
-    lawful t (ask id) l ∙ ap (turned t id told) k
+    lawful t (about id ask) l ∙ unasked t _ ∙ ap (turned t id told) k
     ∙ (λ j. record { outcome = success [] nothing; table = same-table t id e k j })
 
 -- ---- load
@@ -303,17 +307,17 @@ unfolding perform start empties
 refusals = record {
   illegal-is-13 = illegal;
   no-room-to-receive = λ t room text l h. lawful t (receive room text) l ∙ cramped t room _ h;
-  no-room-to-build = λ t room id q l h. lawful t (build-ksm room id q) l ∙ cramped t room _ h;
-  no-room-to-ask-for-service = λ t room id contents l h. lawful t (build-rsi room id contents) l ∙ cramped t room _ h;
+  no-room-to-build = λ t room id q l h. lawful t (about id (build-ksm room q)) l ∙ cramped t room _ h;
+  no-room-to-ask-for-service = λ t room id contents l h. lawful t (about id (build-rsi room contents)) l ∙ cramped t room _ h;
   no-message-is-1 = no-message;
   not-for-us-is-2 = λ t room text r l e. not-for-us t room text l e r;
   no-sender-is-3 = λ t room text r l e. no-sender t room text l e r;
-  nobody-to-build-for = λ t room id q l r n. lawful t (build-ksm room id q) l ∙ roomy t room _ r ∙ nobody t id _ n;
+  nobody-to-build-for = λ t room id q l r n. lawful t (about id (build-ksm room q)) l ∙ roomy t room _ r ∙ nobody t id _ n;
   nobody-to-ask-for-service = λ t room id contents l r n.
-      lawful t (build-rsi room id contents) l ∙ roomy t room _ r ∙ nobody t id _ n;
-  nobody-to-give-up = λ t id l n. lawful t (give-up id) l ∙ nobody t id _ n;
-  nobody-to-remove = λ t id l n. lawful t (remove id) l ∙ nobody t id _ n;
-  nobody-to-show = λ t id l n. lawful t (ask id) l ∙ nobody t id _ n;
+      lawful t (about id (build-rsi room contents)) l ∙ roomy t room _ r ∙ nobody t id _ n;
+  nobody-to-give-up = λ t id l n. lawful t (about id give-up) l ∙ unasked t _ ∙ nobody t id _ n;
+  nobody-to-remove = λ t id l n. lawful t (about id remove) l ∙ unasked t _ ∙ nobody t id _ n;
+  nobody-to-show = λ t id l n. lawful t (about id ask) l ∙ unasked t _ ∙ nobody t id _ n;
   no-service-is-12 = service-refused;
   removed-is-gone = gone;
   asked-is-found = is-found;

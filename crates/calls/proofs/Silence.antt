@@ -6,7 +6,7 @@ use Prim.Native.Nat.{ℕ}
 use Rattle.octets.specs.Text.{Text}
 use Rattle.csm.specs.Message.{Reading, Esm, esm}
 use Rattle.partner.specs.declared.Entry.{Entry}
-use Rattle.image.specs.Table.{Table}
+use Rattle.partner.specs.Table.{Table}
 use Rattle.calls.specs.Outcome.{Turn}
 use Rattle.calls.specs.Receive as by-class
 use Rattle.calls.specs.Calls.{receive, After, entry-of, turned, at-partner, receiving, perform, run}

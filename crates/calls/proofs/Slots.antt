@@ -16,7 +16,7 @@ use Rattle.partner.specs.Entry.{empty}
 use Rattle.partner.specs.Legal as partner
 use Rattle.partner.specs.Record.{entry-bytes, front-bytes, top-bytes, count-bytes, place-bytes, set-bytes}
 use Rattle.partner.proofs.Keeping.{rules}
-use Rattle.image.specs.Table.{is-empty, slots-legal, find, put}
+use Rattle.partner.specs.Table.{is-empty, slots-legal, find, put}
 use Rattle.calls.specs.Claims.{kept, turned, emptied, Row, end, next}
 use Rattle.calls.proofs.Tests.{never, or-right, and-join}
 

@@ -13,7 +13,7 @@ use Rattle.partner.specs.declared.KeySet.{KeySet}
 use Rattle.partner.specs.declared.Entry.{Entry}
 use Rattle.partner.specs.Entry.{filled, limit, risen, waiting, broken, no-keys}
 use Rattle.partner.specs.Changes.{sending, receiving as receiving-side, accepted, issued, settled, given-up, failed}
-use Rattle.image.specs.Table.{Table, legal}
+use Rattle.partner.specs.Table.{Table, legal}
 use Rattle.calls.specs.declared.Request.{Request}
 use Rattle.calls.specs.Words.{any}
 use Rattle.calls.specs.Outcome.{Turn, success, refusal, refused, done, nothing, keys, confirmation, service, failure}
@@ -21,7 +21,7 @@ use Rattle.calls.specs.Receive as by-class
 use Rattle.calls.specs.Receive.{brought, iv-of, is-waiting, receive-rsm, receive-esm, after-esm}
 use Rattle.calls.specs.Build as building
 use Rattle.calls.specs.Build.{used, not-odd, malformed, outgoing-of, ksm-text}
-use Rattle.calls.specs.Calls.{receive, build-ksm, give-up, After, entry-of, turned, at-partner, perform, run}
+use Rattle.calls.specs.Calls.{receive, about, build-ksm, give-up, After, entry-of, turned, at-partner, perform, run}
 use Rattle.calls.specs.Claims.{Carries, Sized}
 use Rattle.calls.specs.Good.{Good-ksm, Sealed, Odd-where-marked, Formed-request, Good-request}
 use Rattle.calls.specs.Results.{Accepts, Confirms, Breaks, raised-to}
@@ -221,9 +221,10 @@ esm-told t room text id m e g c w =
     ap (λ o. o .told) (esm-breaking t room text id m e (g .lawful) (g .roomy) c (g .known) (waits e w) .0)
 
 give-up-turns : (t : Table) (id : Text) (e : Entry) → legal t ≡ true → entry-of id t ≡ some e
-    → run t (give-up id) ≡ put-back t id (building.give-up e)
+    → run t (about id give-up) ≡ put-back t id (building.give-up e)
 unfolding run perform at-partner
-give-up-turns t id e l k = if-true (legal t) _ _ l ∙ ap (turned t id building.give-up) k
+give-up-turns t id e l k =
+    if-true (legal t) _ _ l ∙ if-false false _ _ refl ∙ ap (turned t id building.give-up) k
 
 given-up-turn : (e : Entry) → is-waiting e ≡ true → building.give-up e ≡ done (given-up e) [] nothing
 unfolding building.give-up
@@ -234,13 +235,13 @@ unfolding building.give-up
 give-up-idle e h = if-true (not (is-waiting e)) _ _ (ap not h)
 
 pub give-up-vain : (t : Table) (id : Text) (e : Entry) → legal t ≡ true → entry-of id t ≡ some e
-    → (e .phase ≡ waiting → ⊥) → run t (give-up id) .outcome ≡ refusal 5
+    → (e .phase ≡ waiting → ⊥) → run t (about id give-up) .outcome ≡ refusal 5
 give-up-vain t id e l k h =
     ap (λ (a : After). a .outcome)
     (give-up-turns t id e l k ∙ ap (put-back t id) (give-up-idle e (waits-not e h)))
 
 pub give-up-so : (t : Table) (id : Text) (e : Entry) → legal t ≡ true → entry-of id t ≡ some e
-    → e .phase ≡ waiting → Breaks id e (e .next) (run t (give-up id))
+    → e .phase ≡ waiting → Breaks id e (e .next) (run t (about id give-up))
 unfolding given-up sending
 give-up-so t id e l k w =
     subst (Breaks id e (e .next))
@@ -268,23 +269,23 @@ rsi-told t room text id m e g c =
 -- ---- build a KSM
 
 module _ (t : Table) (room : ℕ) (id : Text) (q : Request) (e : Entry) (g : Comes t room id e) where
-  builds-to : (r : Turn) → building.build-ksm (bare (t .own)) e q ≡ r → run t (build-ksm room id q) .outcome ≡ r .outcome
+  builds-to : (r : Turn) → building.build-ksm (bare (t .own)) e q ≡ r → run t (about id (build-ksm room q)) .outcome ≡ r .outcome
   builds-to r p =
       ap (λ (a : After). a .outcome)
       (build-turns t (g .lawful) room (g .roomy) id e (g .known) q ∙ ap (put-back t id) p)
 
-  pub is-7 : e .phase ≡ waiting → run t (build-ksm room id q) .outcome ≡ refusal 7
+  pub is-7 : e .phase ≡ waiting → run t (about id (build-ksm room q)) .outcome ≡ refusal 7
   unfolding building.build-ksm
   is-7 w = builds-to (refused e 7) (if-true (is-waiting e) _ _ (waits e w))
 
-  pub is-8 : (e .phase ≡ waiting → ⊥) → e .next ≡ limit → run t (build-ksm room id q) .outcome ≡ refusal 8
+  pub is-8 : (e .phase ≡ waiting → ⊥) → e .next ≡ limit → run t (about id (build-ksm room q)) .outcome ≡ refusal 8
   unfolding building.build-ksm
   is-8 w n =
       builds-to (refused e 8) (if-false (is-waiting e) _ _ (waits-not e w)
       ∙ if-true (eqb (e .next) limit) _ _ (eq-eqb (e .next) limit n))
 
   pub is-11 : (e .phase ≡ waiting → ⊥) → (e .next ≡ limit → ⊥) → (Odd-where-marked q → ⊥)
-      → run t (build-ksm room id q) .outcome ≡ refusal 11
+      → run t (about id (build-ksm room q)) .outcome ≡ refusal 11
   unfolding building.build-ksm
   is-11 w n o =
       builds-to (refused e 11) (if-false (is-waiting e) _ _ (waits-not e w)
@@ -296,7 +297,7 @@ module _ (t : Table) (room : ℕ) (id : Text) (q : Request) (e : Entry) (g : Com
       go false p = absurd (o (odd-where-marked q p))
 
   pub is-12 : (e .phase ≡ waiting → ⊥) → (e .next ≡ limit → ⊥) → Odd-where-marked q → (Formed-request q → ⊥)
-      → run t (build-ksm room id q) .outcome ≡ refusal 12
+      → run t (about id (build-ksm room q)) .outcome ≡ refusal 12
   unfolding building.build-ksm
   is-12 w n o f =
       builds-to (refused e 12) (if-false (is-waiting e) _ _ (waits-not e w)
@@ -308,14 +309,14 @@ module _ (t : Table) (room : ℕ) (id : Text) (q : Request) (e : Entry) (g : Com
       go true p = refl
       go false p = absurd (f (request-formed q p))
 
-  pub built-entry : Good-request e q → entry-of id (run t (build-ksm room id q) .table) ≡ some (issued e (outgoing-of q))
+  pub built-entry : Good-request e q → entry-of id (run t (about id (build-ksm room q)) .table) ≡ some (issued e (outgoing-of q))
   unfolding issued sending
   built-entry h =
       subst (λ (a : After). entry-of id (a .table) ≡ some (issued e (outgoing-of q)))
       (sym (request-built t room id q e (g .lawful) (g .roomy) (g .known) (fit e q h)))
       (turned-after t id e (issued e (outgoing-of q)) (entry-held t id e (g .known)) refl)
 
-  pub builds : Good-request e q → Builds (bare (t .own)) id e q (run t (build-ksm room id q))
+  pub builds : Good-request e q → Builds (bare (t .own)) id e q (run t (about id (build-ksm room q)))
   unfolding issued sending
   builds h =
       let us = bare (t .own) in
@@ -343,7 +344,7 @@ module _ (t : Table) (room : ℕ) (id : Text) (q : Request) (e : Entry) (g : Com
       })
 
 pub built-good : (t : Table) (room : ℕ) (id : Text) (q : Request) (e : Entry) → entry-of id t ≡ some e
-    → run t (build-ksm room id q) .outcome .answer ≡ 0 → Good-request e q
+    → run t (about id (build-ksm room q)) .outcome .answer ≡ 0 → Good-request e q
 built-good t room id q e k z = good e q (built-is-good t room id q e k z)
 
 -- ---- a whole exchange
@@ -370,9 +371,9 @@ module _ (t u : Table) (e f : Entry) (q : Request) (room : ℕ) (p : Partners t 
       let a = accepts t u e f q room p x sized roomy in
       let k = keys-back us e f q (p .same-top) sized in
       rsm-taken (after-built t u q room .table) room (after-taken t u q room .outcome .reply) them (a .message)
-      (issued e set) (legals t _ _ _ (run-effect t (build-ksm room them q)) (p .ours)) roomy
+      (issued e set) (legals t _ _ _ (run-effect t (about them (build-ksm room q))) (p .ours)) roomy
       (subst (λ (own : Text). Carries them (bare own) (rsm (a .message)) (after-taken t u q room .outcome .reply))
-      (sym (owns t _ _ _ (run-effect t (build-ksm room them q)))) (a .written))
+      (sym (owns t _ _ _ (run-effect t (about them (build-ksm room q))))) (a .written))
       (built-entry t room them q e (record { lawful = p .ours; roomy = roomy; known = p .our-entry }) g)
       (issued-waits e set)
       (subst (λ (s : KeySet). Sealed s (after-taken t u q room .outcome .reply) (a .message .mac))

@@ -14,10 +14,10 @@ use Rattle.partner.specs.Entry.{empty, filled}
 use Rattle.partner.specs.Legal as partner
 use Rattle.partner.proofs.Naming.{filled-name}
 use Rattle.partner.proofs.Claims.{claims}
-use Rattle.image.specs.Table.{Table, slots-legal, identities, differs, apart, find, put, legal}
+use Rattle.partner.specs.Table.{Table, slots-legal, identities, differs, apart, find, put, legal}
 use Rattle.calls.specs.Words.{if_then_else_}
 use Rattle.calls.specs.Calls.{entry-of}
-use Rattle.image.specs.Table.{holding}
+use Rattle.partner.specs.Table.{holding}
 use Rattle.calls.proofs.Tests.{if-true}
 use Rattle.calls.proofs.Slots.{find-identity, find-put, legal-find}
 use Rattle.calls.proofs.Identities.{find-emptied}

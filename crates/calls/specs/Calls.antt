@@ -1,5 +1,5 @@
 -- Every call, and the order of its answers (document 01, "Answers").
-use mathlib.Core.Bool.{Bool, not, _&&_}
+use mathlib.Core.Bool.{Bool, false, not, _&&_}
 use mathlib.Core.List.{List, [], _∷_}
 use mathlib.Core.Option.{Option, none, some}
 use Prim.Native.Nat.{ℕ}
@@ -12,22 +12,26 @@ use Rattle.csm.specs.Message.{Reading, read}
 use Rattle.partner.specs.declared.Entry.{Entry}
 use Rattle.partner.specs.Entry.{empty, filled, name-of}
 use Rattle.partner.specs.Changes.{loaded}
-use Rattle.image.specs.Table.{Table, legal, identities, differs, find, put, place, holding, started}
+use Rattle.partner.specs.Table.{Table, legal, identities, differs, find, put, place, holding, started}
 use Rattle.calls.specs.declared.Request.{Request}
 use Rattle.calls.specs.Words.{if_then_else_}
 use Rattle.calls.specs.Outcome.{Outcome, refusal, success, nothing, Turn, done}
 use Rattle.calls.specs.Receive as by-class
 use Rattle.calls.specs.Build as building
 
--- the calls with their arguments; identities and names are bare, a room is the length of the reply buffer
+-- what is asked about one partner; a room is the length of the reply buffer
+pub data Act : Type 0 where
+  build-ksm : ℕ → Request → Act
+  build-rsi : ℕ → Text → Act
+  give-up : Act
+  remove : Act
+  ask : Act
+
+-- the calls with their arguments; identities and names are bare
 pub data Call : Type 0 where
   receive : ℕ → Text → Call
-  build-ksm : ℕ → Text → Request → Call
-  build-rsi : ℕ → Text → Text → Call
-  give-up : Text → Call
+  about : Text → Act → Call
   load : Text → Text → Top → Call
-  remove : Text → Call
-  ask : Text → Call
 
 -- what a call gives: its outcome, and the table after it
 pub record After : Type 0 where
@@ -54,8 +58,11 @@ unfoldable pub at-partner : Table → Text → (Entry → Turn) → After
 at-partner t id turn = turned t id turn (entry-of id t)
 
 -- 6: reply room under 256
-abbrev pub with-room : Table → ℕ → After → After
-with-room t room after = if ltb room 256 then refuse t 6 else after
+abbrev pub short : ℕ → Bool
+short room = ltb room 256
+
+abbrev pub with-room : Table → Bool → After → After
+with-room t too-short after = if too-short then refuse t 6 else after
 
 -- ---- receive: 1 (no message of this paper), 2 (RCV is not us), 3, then by class
 
@@ -82,7 +89,7 @@ loading t id name top =
     if not (odd-top top) then refuse t 11 else
     placed t (place (loaded (name-of id) (name-of name) top) (t .slots))
 
--- ---- remove and ask for an entry: 3
+-- ---- an act: 6 where a reply may follow, 3, then its step; remove and ask for an entry have no answer of their own
 
 abbrev pub emptied : Entry → Turn
 emptied e = done empty [] nothing
@@ -90,17 +97,26 @@ emptied e = done empty [] nothing
 abbrev pub told : Entry → Turn
 told e = done e [] nothing
 
+abbrev pub no-room : Act → Bool
+no-room (build-ksm room q) = short room
+no-room (build-rsi room contents) = short room
+no-room give-up = false
+no-room remove = false
+no-room ask = false
+
+abbrev pub acting : Text → Act → Entry → Turn
+acting own (build-ksm room q) e = building.build-ksm own e q
+acting own (build-rsi room contents) e = building.build-rsi own e contents
+acting own give-up e = building.give-up e
+acting own remove e = emptied e
+acting own ask e = told e
+
 -- ---- every call in a legal table
 
 unfoldable pub perform : Table → Call → After
-perform t (receive room text) = with-room t room (receiving t text (read text))
-perform t (build-ksm room id q) = with-room t room (at-partner t id (λ e. building.build-ksm (bare (t .own)) e q))
-perform t (build-rsi room id svr) =
-    with-room t room (at-partner t id (λ e. building.build-rsi (bare (t .own)) e svr))
-perform t (give-up id) = at-partner t id building.give-up
+perform t (receive room text) = with-room t (short room) (receiving t text (read text))
+perform t (about id a) = with-room t (no-room a) (at-partner t id (acting (bare (t .own)) a))
 perform t (load id name top) = loading t id name top
-perform t (remove id) = at-partner t id emptied
-perform t (ask id) = at-partner t id told
 
 -- any call that is lent a table tests 13 before all else
 unfoldable pub run : Table → Call → After

@@ -13,10 +13,10 @@ use Rattle.csm.specs.Fields.{svr}
 use Rattle.csm.specs.Message.{Reading, Body, Ksm, Rsm, Esm, rsi, ksm, rsm, esm, option, read}
 use Rattle.partner.specs.declared.Entry.{Entry}
 use Rattle.partner.specs.Entry.{empty, filled}
-use Rattle.image.specs.Table.{Table, legal, is-empty}
+use Rattle.partner.specs.Table.{Table, legal, is-empty}
 use Rattle.calls.specs.declared.Request.{Request}
 use Rattle.calls.specs.Outcome.{Outcome, refusal, nothing}
-use Rattle.calls.specs.Calls.{Call, receive, build-ksm, build-rsi, give-up, load, remove, ask, entry-of}
+use Rattle.calls.specs.Calls.{Act, build-ksm, build-rsi, give-up, remove, ask, Call, receive, about, load, entry-of}
 use Rattle.calls.specs.Calls.{run}
 
 -- ---- the partner that a call is about
@@ -28,22 +28,14 @@ sender (some r) = r .org
 
 unfoldable pub subject : Call → Text
 subject (receive room text) = sender (read text)
-subject (build-ksm room id q) = id
-subject (build-rsi room id contents) = id
-subject (give-up id) = id
+subject (about id a) = id
 subject (load id name top) = id
-subject (remove id) = id
-subject (ask id) = id
 
 -- the calls but load, which also asks for a free slot
 abbrev pub Of-one-entry : Call → Type 0
 Of-one-entry (receive room text) = Unit {0}
-Of-one-entry (build-ksm room id q) = Unit {0}
-Of-one-entry (build-rsi room id contents) = Unit {0}
-Of-one-entry (give-up id) = Unit {0}
+Of-one-entry (about id a) = Unit {0}
 Of-one-entry (load id name top) = ⊥
-Of-one-entry (remove id) = Unit {0}
-Of-one-entry (ask id) = Unit {0}
 
 -- ---- slots
 
@@ -86,16 +78,20 @@ abbrev pub Answers-text : Text → Option Reading → Text → Type 0
 Answers-text us none reply = ⊥
 Answers-text us (some r) reply = Answers us (r .org) (r .body) reply
 
+-- 0 for an act: a KSM or an RSI where one is built, else no reply
+abbrev pub Sends : Text → Text → Act → Text → Type 0
+Sends us them (build-ksm room q) reply = (x : Ksm) × Carries us them (ksm x) reply
+Sends us them (build-rsi room contents) reply =
+    (s : ℕ) × (value svr contents ≡ some s) × Carries us them (rsi (record { svr = s; edc = none })) reply
+Sends us them give-up reply = reply ≡ []
+Sends us them remove reply = reply ≡ []
+Sends us them ask reply = reply ≡ []
+
 -- 0: the reply of each call
 abbrev pub Writes : Text → Call → Text → Type 0
 Writes us (receive room text) reply = Answers-text us (read text) reply
-Writes us (build-ksm room id q) reply = (x : Ksm) × Carries us id (ksm x) reply
-Writes us (build-rsi room id contents) reply =
-    (s : ℕ) × (value svr contents ≡ some s) × Carries us id (rsi (record { svr = s; edc = none })) reply
-Writes us (give-up id) reply = reply ≡ []
+Writes us (about id a) reply = Sends us id a reply
 Writes us (load id name top) reply = reply ≡ []
-Writes us (remove id) reply = reply ≡ []
-Writes us (ask id) reply = reply ≡ []
 
 -- keys and IV of 64 bits; in a request's bytes they are
 pub record Sized (q : Request) : Type 0 where

@@ -5,7 +5,7 @@ use mathlib.Core.Bool.{true, not}
 use mathlib.Core.List.{List, [], _∷_}
 use mathlib.Core.Option.{Option, none, some}
 use Prim.Native.Nat.{ℕ}
-use lib.Dec.{eqb, ltb}
+use lib.Dec.{eqb}
 use Rattle.octets.specs.Text.{Text, same, is-name, stands}
 use Rattle.octets.specs.Part.{bare}
 use Rattle.octets.specs.First.{Order, first, Given}
@@ -16,13 +16,12 @@ use Rattle.csm.specs.Message.{Body, rsi, ksm, rsm, esm, option, Reading, read, 
 use Rattle.partner.specs.declared.Entry.{Entry}
 use Rattle.partner.specs.Entry.{limit, name-of}
 use Rattle.partner.specs.Changes.{loaded}
-use Rattle.image.specs.Table.{Table, legal, place}
-use Rattle.calls.specs.declared.Request.{Request}
+use Rattle.partner.specs.Table.{Table, legal, place}
 use Rattle.calls.specs.Words.{any}
 use Rattle.calls.specs.Receive.{foreign, uneven, kds, brought, faults, bad-mac, is-waiting}
 use Rattle.calls.specs.Build.{used, not-odd, malformed}
-use Rattle.calls.specs.Calls.{Call, receive, build-ksm, build-rsi, give-up, load, remove, ask, entry-of, run}
-use Rattle.calls.specs.Calls.{bad-identity}
+use Rattle.calls.specs.Calls.{Act, build-ksm, build-rsi, give-up, remove, ask, Call, receive, about, load, entry-of}
+use Rattle.calls.specs.Calls.{short, no-room, bad-identity, run}
 
 -- ---- of one entry
 
@@ -36,56 +35,51 @@ by-class e text (rsm m) = (not (is-waiting e), 5) ∷ (bad-mac (e .outgoing) tex
 by-class e text (esm m) = (not (is-waiting e), 5) ∷ []
 by-class e text (option c w) = (true, 4) ∷ []
 
--- build a KSM
-abbrev pub of-key-message : Request → Entry → Order
-of-key-message q e =
+-- an act
+abbrev pub by-act : Act → Entry → Order
+by-act (build-ksm room q) e =
     (is-waiting e, 7) ∷ (eqb (e .next) limit, 8) ∷ (any not-odd (used q), 11) ∷ (malformed q, 12) ∷ []
-
--- build an RSI
-abbrev pub of-service : Text → Entry → Order
-of-service contents e = (not (found (value svr contents)), 12) ∷ []
-
--- give up
-abbrev pub of-giving-up : Entry → Order
-of-giving-up e = (not (is-waiting e), 5) ∷ []
+by-act (build-rsi room contents) e = (not (found (value svr contents)), 12) ∷ []
+by-act give-up e = (not (is-waiting e), 5) ∷ []
+by-act remove e = []
+by-act ask e = []
 
 -- ---- of a call
 
 -- partner not in the table, then its entry's
-abbrev pub about : Option Entry → (Entry → Order) → Order
-about none rest = (true, 3) ∷ []
-about (some e) rest = rest e
+abbrev pub at-entry : Option Entry → (Entry → Order) → Order
+at-entry none rest = (true, 3) ∷ []
+at-entry (some e) rest = rest e
 
 -- text not a message of this paper; RCV is not us; then its originator
 abbrev pub of-text : Table → Text → Option Reading → Order
 of-text t text none = (true, 1) ∷ []
 of-text t text (some r) =
-    (not (same (r .rcv) (bare (t .own))), 2) ∷ about (entry-of (r .org) t) (λ e. by-class e text (r .body))
+    (not (same (r .rcv) (bare (t .own))), 2) ∷ at-entry (entry-of (r .org) t) (λ e. by-class e text (r .body))
 
 abbrev pub in-order : Table → Call → Order
-in-order t (receive room text) = (ltb room 256, 6) ∷ of-text t text (read text)
-in-order t (build-ksm room id q) = (ltb room 256, 6) ∷ about (entry-of id t) (of-key-message q)
-in-order t (build-rsi room id contents) = (ltb room 256, 6) ∷ about (entry-of id t) (of-service contents)
-in-order t (give-up id) = about (entry-of id t) of-giving-up
+in-order t (receive room text) = (short room, 6) ∷ of-text t text (read text)
+in-order t (about id a) = (no-room a, 6) ∷ at-entry (entry-of id t) (by-act a)
 in-order t (load id name top) =
     (bad-identity t id, 10) ∷ (not (is-name name), 12) ∷ (not (odd-top top), 11)
     ∷ (not (found (place (loaded (name-of id) (name-of name) top) (t .slots))), 9) ∷ []
-in-order t (remove id) = about (entry-of id t) (λ e. [])
-in-order t (ask id) = about (entry-of id t) (λ e. [])
 
 -- any call that is lent a table tests 13 before all else
 abbrev pub order : Table → Call → Order
 order t c = (not (legal t), 13) ∷ in-order t c
 
 -- each call's own answers
+abbrev pub act-answers : Act → List ℕ
+act-answers (build-ksm room q) = 0 ∷ 13 ∷ 6 ∷ 3 ∷ 7 ∷ 8 ∷ 11 ∷ 12 ∷ []
+act-answers (build-rsi room contents) = 0 ∷ 13 ∷ 6 ∷ 3 ∷ 12 ∷ []
+act-answers give-up = 0 ∷ 13 ∷ 3 ∷ 5 ∷ []
+act-answers remove = 0 ∷ 13 ∷ 3 ∷ []
+act-answers ask = 0 ∷ 13 ∷ 3 ∷ []
+
 abbrev pub answers : Call → List ℕ
 answers (receive room text) = 0 ∷ 13 ∷ 6 ∷ 1 ∷ 2 ∷ 3 ∷ 4 ∷ 5 ∷ []
-answers (build-ksm room id q) = 0 ∷ 13 ∷ 6 ∷ 3 ∷ 7 ∷ 8 ∷ 11 ∷ 12 ∷ []
-answers (build-rsi room id contents) = 0 ∷ 13 ∷ 6 ∷ 3 ∷ 12 ∷ []
-answers (give-up id) = 0 ∷ 13 ∷ 3 ∷ 5 ∷ []
+answers (about id a) = act-answers a
 answers (load id name top) = 0 ∷ 13 ∷ 10 ∷ 12 ∷ 11 ∷ 9 ∷ []
-answers (remove id) = 0 ∷ 13 ∷ 3 ∷ []
-answers (ask id) = 0 ∷ 13 ∷ 3 ∷ []
 
 pub record Orders : Type 0 where
   -- the answer is the number of the first test that holds

@@ -15,10 +15,10 @@ use Rattle.csm.specs.Fields.{svr}
 use Rattle.csm.specs.Message.{Reading, read}
 use Rattle.partner.specs.declared.Entry.{Entry}
 use Rattle.partner.specs.Entry.{filled, top-of, no-keys, idle}
-use Rattle.image.specs.Table.{Table, legal, is-empty}
+use Rattle.partner.specs.Table.{Table, legal, is-empty}
 use Rattle.calls.specs.declared.Request.{Request}
 use Rattle.calls.specs.Outcome.{success, nothing}
-use Rattle.calls.specs.Calls.{Call, receive, build-ksm, build-rsi, give-up, load, remove, ask, After, refuse, start}
+use Rattle.calls.specs.Calls.{Call, receive, about, build-ksm, build-rsi, give-up, load, remove, ask, After, refuse, start}
 use Rattle.calls.specs.Calls.{entry-of, run}
 use Rattle.calls.specs.Good.{Good-identity}
 
@@ -62,9 +62,9 @@ pub record Refusals : Type 0 where
   pub no-room-to-receive : (t : Table) (room : ℕ) (text : Text) → legal t ≡ true → room < 256
       → run t (receive room text) ≡ refuse t 6
   pub no-room-to-build : (t : Table) (room : ℕ) (id : Text) (q : Request) → legal t ≡ true → room < 256
-      → run t (build-ksm room id q) ≡ refuse t 6
+      → run t (about id (build-ksm room q)) ≡ refuse t 6
   pub no-room-to-ask-for-service : (t : Table) (room : ℕ) (id contents : Text) → legal t ≡ true → room < 256
-      → run t (build-rsi room id contents) ≡ refuse t 6
+      → run t (about id (build-rsi room contents)) ≡ refuse t 6
   -- receive: text not a message of this paper, then RCV is not us, then partner not in the table
   pub no-message-is-1 : (t : Table) (room : ℕ) (text : Text) → legal t ≡ true → 256 ≤ room → read text ≡ none
       → run t (receive room text) ≡ refuse t 1
@@ -75,22 +75,22 @@ pub record Refusals : Type 0 where
       → run t (receive room text) ≡ refuse t 3
   -- the other calls about a partner
   pub nobody-to-build-for : (t : Table) (room : ℕ) (id : Text) (q : Request) → legal t ≡ true → 256 ≤ room
-      → entry-of id t ≡ none → run t (build-ksm room id q) ≡ refuse t 3
+      → entry-of id t ≡ none → run t (about id (build-ksm room q)) ≡ refuse t 3
   pub nobody-to-ask-for-service : (t : Table) (room : ℕ) (id contents : Text) → legal t ≡ true → 256 ≤ room
-      → entry-of id t ≡ none → run t (build-rsi room id contents) ≡ refuse t 3
+      → entry-of id t ≡ none → run t (about id (build-rsi room contents)) ≡ refuse t 3
   pub nobody-to-give-up : (t : Table) (id : Text) → legal t ≡ true → entry-of id t ≡ none
-      → run t (give-up id) ≡ refuse t 3
+      → run t (about id give-up) ≡ refuse t 3
   pub nobody-to-remove : (t : Table) (id : Text) → legal t ≡ true → entry-of id t ≡ none
-      → run t (remove id) ≡ refuse t 3
-  pub nobody-to-show : (t : Table) (id : Text) → legal t ≡ true → entry-of id t ≡ none → run t (ask id) ≡ refuse t 3
+      → run t (about id remove) ≡ refuse t 3
+  pub nobody-to-show : (t : Table) (id : Text) → legal t ≡ true → entry-of id t ≡ none → run t (about id ask) ≡ refuse t 3
   -- build an RSI: no legal SVR
   pub no-service-is-12 : (t : Table) (room : ℕ) (id contents : Text) (e : Entry) → legal t ≡ true → 256 ≤ room
-      → entry-of id t ≡ some e → value svr contents ≡ none → run t (build-rsi room id contents) ≡ refuse t 12
+      → entry-of id t ≡ some e → value svr contents ≡ none → run t (about id (build-rsi room contents)) ≡ refuse t 12
   -- remove and ask for an entry
   pub removed-is-gone : (t : Table) (id : Text) (e : Entry) → legal t ≡ true → entry-of id t ≡ some e
-      → (run t (remove id) .outcome ≡ success [] nothing) × (entry-of id (run t (remove id) .table) ≡ none)
+      → (run t (about id remove) .outcome ≡ success [] nothing) × (entry-of id (run t (about id remove) .table) ≡ none)
   pub asked-is-found : (t : Table) (id : Text) (e : Entry) → legal t ≡ true → entry-of id t ≡ some e
-      → run t (ask id) ≡ record { outcome = success [] nothing; table = t }
+      → run t (about id ask) ≡ record { outcome = success [] nothing; table = t }
   -- load: identity malformed, our own, or taken; key name; top key; 64 entries in use
   pub bad-identity-is-10 : (t : Table) (id name : Text) (top : Top) → legal t ≡ true → (Good-identity t id → ⊥)
       → run t (load id name top) ≡ refuse t 10

@@ -13,11 +13,11 @@ use Rattle.csm.specs.Message.{Ksm, Rsm, Esm, Rsi, rsi, ksm, rsm, esm, option}
 use Rattle.partner.specs.declared.KeySet.{KeySet}
 use Rattle.partner.specs.declared.Entry.{Entry}
 use Rattle.partner.specs.Entry.{top-of, waiting, confirmed}
-use Rattle.image.specs.Table.{Table, legal}
+use Rattle.partner.specs.Table.{Table, legal}
 use Rattle.calls.specs.declared.Request.{Request}
 use Rattle.calls.specs.Outcome.{refusal, success, keys, confirmation, service, failure}
 use Rattle.calls.specs.Build.{asked}
-use Rattle.calls.specs.Calls.{receive, build-ksm, give-up, After, entry-of, run}
+use Rattle.calls.specs.Calls.{receive, about, build-ksm, give-up, After, entry-of, run}
 use Rattle.calls.specs.Claims.{Carries, Sized}
 use Rattle.calls.specs.Good.{Kd-of, Ours, in-clear, Even-only-unmarked, Brings, Formed-ksm, Sealed, In-turn}
 use Rattle.calls.specs.Good.{Good-ksm, Odd-where-marked, Formed-request, Good-request}
@@ -43,7 +43,7 @@ pub record Partners (t u : Table) (e f : Entry) : Type 0 where
 
 -- the KSM is built, it is received, and the reply to it is received
 abbrev pub after-built : Table → Table → Request → ℕ → After
-after-built t u q room = run t (build-ksm room (bare (u .own)) q)
+after-built t u q room = run t (about (bare (u .own)) (build-ksm room q))
 
 abbrev pub after-taken : Table → Table → Request → ℕ → After
 after-taken t u q room = run u (receive room (after-built t u q room .outcome .reply))
@@ -145,26 +145,26 @@ pub record Steps : Type 0 where
       → Tells (bare (t .own)) id (ascii "O") none none (run t (receive room text) .outcome)
   -- ---- build a KSM: 7, 8, 11, 12
   pub waiting-is-7 : (t : Table) (room : ℕ) (id : Text) (q : Request) (e : Entry) → Comes t room id e
-      → e .phase ≡ waiting → run t (build-ksm room id q) .outcome ≡ refusal 7
+      → e .phase ≡ waiting → run t (about id (build-ksm room q)) .outcome ≡ refusal 7
   pub spent-is-8 : (t : Table) (room : ℕ) (id : Text) (q : Request) (e : Entry) → Comes t room id e
-      → (e .phase ≡ waiting → ⊥) → e .next ≡ 99_999_999 → run t (build-ksm room id q) .outcome ≡ refusal 8
+      → (e .phase ≡ waiting → ⊥) → e .next ≡ 99_999_999 → run t (about id (build-ksm room q)) .outcome ≡ refusal 8
   pub even-key-is-11 : (t : Table) (room : ℕ) (id : Text) (q : Request) (e : Entry) → Comes t room id e
       → (e .phase ≡ waiting → ⊥) → (e .next ≡ 99_999_999 → ⊥) → (Odd-where-marked q → ⊥)
-      → run t (build-ksm room id q) .outcome ≡ refusal 11
+      → run t (about id (build-ksm room q)) .outcome ≡ refusal 11
   pub malformed-is-12 : (t : Table) (room : ℕ) (id : Text) (q : Request) (e : Entry) → Comes t room id e
       → (e .phase ≡ waiting → ⊥) → (e .next ≡ 99_999_999 → ⊥) → Odd-where-marked q → (Formed-request q → ⊥)
-      → run t (build-ksm room id q) .outcome ≡ refusal 12
+      → run t (about id (build-ksm room q)) .outcome ≡ refusal 12
   -- each good request is built
   pub good-request-is-built : (t : Table) (room : ℕ) (id : Text) (q : Request) (e : Entry) → Comes t room id e
-      → Good-request e q → Builds (bare (t .own)) id e q (run t (build-ksm room id q))
+      → Good-request e q → Builds (bare (t .own)) id e q (run t (about id (build-ksm room q)))
   -- and no other
   pub built-request-is-good : (t : Table) (room : ℕ) (id : Text) (q : Request) (e : Entry)
-      → entry-of id t ≡ some e → run t (build-ksm room id q) .outcome .answer ≡ 0 → Good-request e q
+      → entry-of id t ≡ some e → run t (about id (build-ksm room q)) .outcome .answer ≡ 0 → Good-request e q
   -- ---- give up: 5, else phase 3 and keys wiped
   pub give-up-in-vain : (t : Table) (id : Text) (e : Entry) → legal t ≡ true → entry-of id t ≡ some e
-      → (e .phase ≡ waiting → ⊥) → run t (give-up id) .outcome ≡ refusal 5
+      → (e .phase ≡ waiting → ⊥) → run t (about id give-up) .outcome ≡ refusal 5
   pub give-up-breaks : (t : Table) (id : Text) (e : Entry) → legal t ≡ true → entry-of id t ≡ some e
-      → e .phase ≡ waiting → Breaks id e (e .next) (run t (give-up id))
+      → e .phase ≡ waiting → Breaks id e (e .next) (run t (about id give-up))
   -- ---- what one card builds the other accepts, and its reply is taken: both hold the keys
   pub exchange : (t u : Table) (e f : Entry) (q : Request) (room : ℕ) → Partners t u e f → Good-request e q → Sized q
       → 256 ≤ room → Exchanged t u e q room

@@ -1,230 +1,226 @@
--- Each call over an image, step by step in the order of its answers.
+-- The way of a call over an image is the call on the image's table.
 use mathlib.Core.Path.{_≡_, refl, sym, ap, _∙_, subst}
-use mathlib.Core.Bool.{true, false, not}
+use mathlib.Core.Bool.{Bool, true, false, cond, not, _&&_, true≢false}
+use mathlib.Core.List.{List, [], _∷_}
+use mathlib.Core.Logic.{⊎-elim}
 use mathlib.Core.Option.{Option, none, some}
 use Prim.Native.Nat.{ℕ, _<_, _≤_}
 use native.Mathlib.Omega.{arith}
-use lib.Dec.{ltb}
-use borrow.Author.Tests.{lt-ltb, le-ltb}
-use Rattle.octets.specs.Text.{Text, same}
-use Rattle.octets.specs.Part.{bare, all-octets}
+use lib.Dec.{eqb, ltb}
+use lib.ListN.{length, getD, set}
+use lib.Seq.{set-out}
+use borrow.Author.Tests.{ltb-true, ltb-false, eqb-false}
+use Rattle.octets.specs.Text.{Text, same, is-name}
+use Rattle.octets.specs.Part.{bare}
+use Rattle.octets.proofs.Firsts.{holds-first}
 use Rattle.csm.specs.Message.{Reading, read}
-use Rattle.reader.specs.declared.Head.{Head}
-use Rattle.reader.specs.Seen.{head-seen}
-use Rattle.reader.specs.Parts as parts
-use Rattle.reader.proofs.Claims as reader
 use Rattle.partner.specs.declared.Entry.{Entry}
-use Rattle.partner.specs.Held.{Held}
+use Rattle.partner.specs.Entry.{empty}
 use Rattle.partner.specs.Legal as partner
-use Rattle.image.specs.Table.{Table, legal}
-use Rattle.image.specs.Image.{decode, encode, found}
-use Rattle.image.specs.Places.{own-in}
-use Rattle.image.proofs.Images.{table-there, table-missing}
-use Rattle.calls.specs.declared.Request.{Request}
-use Rattle.calls.specs.Outcome.{Outcome, Turn, refusal}
-use Rattle.calls.specs.Receive as by-class
-use Rattle.calls.specs.Build as building
-use Rattle.calls.specs.Calls.{Call, receive, build-ksm, build-rsi, give-up, After, refuse, at-partner, receiving}
-use Rattle.calls.specs.Calls.{with-room, perform, run}
-use Rattle.calls.specs.Claims.{Sized}
-use Rattle.calls.proofs.Tests.{if-true, if-false}
+use Rattle.partner.specs.Table.{Table, legal, is-empty, holding}
+use Rattle.image.specs.Image.{decode, encode, found, table-in}
+use Rattle.image.specs.Places.{slot-place}
+use Rattle.image.specs.Results.{put-back, put-slot}
+use Rattle.image.proofs.Entries.{legal-full, empty-is}
+use Rattle.image.proofs.Images.{rules, decoded, table-missing}
+use Rattle.image.proofs.Edits.{stored-at}
+use Rattle.image.proofs.Numbered.{put-slot-is}
+use Rattle.calls.specs.Outcome.{Outcome, Turn, refusal, refused}
+use Rattle.calls.specs.Calls.{Call, After, run}
+use Rattle.calls.proofs.Claims as call
 use Rattle.calls.proofs.Tables.{own-name}
 use Rattle.outcome.specs.declared.Report.{Report}
-use Rattle.outcome.specs.declared.Asked.{Asked}
-use Rattle.outcome.specs.declared.Act.the-variants.{Receive, BuildKsm, BuildRsi, GiveUp}
-use Rattle.outcome.specs.Acts.{act}
-use Rattle.outcome.specs.Report.{report, replied, refusal-report}
-use Rattle.card.specs.declared.way.Opening.the-variants as heading
-use Rattle.card.specs.Over.{outcome-over, image-over}
-use Rattle.card.specs.Ways.{opening-of, record-of, plain, outcome-at, image-at}
-use Rattle.card.proofs.Fitting.{Keeps, receive-keeps, build-ksm-keeps, give-up-keeps}
-use Rattle.card.proofs.Turning.{lawful-table, own-is, encode-is, outcome-is, image-is}
-use Rattle.card.proofs.Turning.{receive-acts, build-ksm-acts, build-rsi-acts, give-up-acts}
+use Rattle.outcome.specs.Report.{report, replied}
+use Rattle.sight.specs.declared.aims.Act.{Act}
+use Rattle.sight.specs.declared.aims.Act.the-variants.{Receive, BuildKsm, BuildRsi, GiveUp, Remove, Ask, Load}
+use Rattle.sight.specs.declared.aims.Aim.{Aim}
+use Rattle.sight.specs.declared.Sight.{Sight}
+use Rattle.sight.specs.Aim.{at-partner, of-reading, aim-of}
+use Rattle.sight.specs.Aim as aims
+use Rattle.sight.specs.Asked.{call-of}
+use Rattle.turn.specs.Way as way
+use Rattle.turn.specs.Way.{refusal as refusal-of, turn, take}
+use Rattle.turn.proofs.Acting.{way-refused}
+use Rattle.turn.proofs.Ways.{way-ends}
+use Rattle.card.specs.Over.{outcome-over, image-over, Called}
+use Rattle.card.specs.Claims.{In-place}
+use Rattle.card.specs.Ways.{ours, aim, sought, blind, seen, sighted, turn-in, put-in, Changed}
+use Rattle.card.proofs.Tables.{lawful-table, encode-is, agrees}
+use Rattle.card.proofs.Lasting.{take-lawful}
+use Rattle.card.proofs.Seeing.{aim-named, seen-is, sees, slot-full}
 
--- ---- results
+-- a legal image is that of the table that its bytes hold
+pub table-read : (image : Text) → found (decode image) ≡ true → decode image ≡ some (table-in image)
+unfolding decode
+table-read image = go (legal (table-in image) && same (encode (table-in image)) image)
+  where
+    go : (b : Bool) → found (cond b (some (table-in image)) none) ≡ true
+        → cond b (some (table-in image)) none ≡ some (table-in image)
+    go true h = refl
+    go false h = absurd (true≢false (sym h))
 
--- a bare refusal: its report, and the buffer as it was
-pub refused-report : (o : Outcome) (n : ℕ) (r : Report) → o ≡ refusal n → r ≡ refusal-report n → r ≡ report o
-unfolding report
-refused-report o n r p q = q ∙ ap report (sym p)
+-- no free slot is sought in place
+by-text : (own : Text) (o : Option Reading) → of-reading own o .vacant ≡ false
+unfolding of-reading
+by-text own none = refl
+by-text own (some r) = go (not (same (r .rcv) own))
+  where
+    go : (b : Bool) → cond b (aims.refused own 2) (at-partner own (r .org)) .vacant ≡ false
+    go true = refl
+    go false = refl
 
-pub refused-reply : (o : Outcome) (n : ℕ) (l : Text) → o ≡ refusal n → l ≡ replied o l
-unfolding replied
-refused-reply o n l p = ap (λ (x : Outcome). replied x l) (sym p)
+not-vacant : (a : Act) (own who text : Text) (room : ℕ) → In-place (call-of a room who text)
+    → aim-of a own who text .vacant ≡ false
+unfolding call-of aim-of
+not-vacant Receive own who text room p = by-text own (read text)
+not-vacant BuildKsm own who text room p = refl
+not-vacant BuildRsi own who text room p = refl
+not-vacant GiveUp own who text room p = refl
+not-vacant Remove own who text room p = refl
+not-vacant Ask own who text room p = refl
+not-vacant (Load top) own who text room p = absurd p
 
--- what a call over an image gives: its outcome, and the image afterwards
-pub record Over (image : Text) (c : Call) (o : Outcome) (after : Text) : Type 0 where
-  pub outcome : o ≡ outcome-over image c
-  pub stored : after ≡ image-over image c
+module _ (q : Act) (image who text : Text) (room : ℕ) where
+  abbrev a : Aim
+  a = aim q image who text
 
--- 13: the bytes are no image
-pub no-image : (image : Text) (c : Call) → found (decode image) ≡ false → Over image c (refusal 13) image
-unfolding outcome-over image-over
-no-image image c h =
-    let d = table-missing image h in
-    record { outcome = rw (outcome-over, d); stored = rw (image-over, d) }
+  abbrev s : Sight
+  s = seen a image
 
-module _ (image : Text) (t : Table) (d : decode image ≡ some t) (c : Call) where
-  -- else what the call gives on its table
-  over-run : (a : After) → run t c ≡ a → Over image c (a .outcome) (encode (a .table))
-  unfolding outcome-over image-over
-  over-run a h =
-      subst (λ (a : After). Over image c (a .outcome) (encode (a .table))) h
-      (record { outcome = rw (outcome-over, d); stored = rw (image-over, d) })
+  abbrev u : Turn
+  u = turn-in a image q text room
 
-  over-refused : (n : ℕ) → perform t c ≡ refuse t n → Over image c (refusal n) image
-  unfolding run
-  over-refused n h =
-      subst (λ (s : Text). Over image c (refusal n) s) (encode-is image t d)
-      (over-run (refuse t n) (if-true (legal t) _ _ (lawful-table image t d) ∙ h))
+  abbrev c : Call
+  c = call-of q room who text
 
-  over-done : (a : After) (o : Outcome) (s : Text) → perform t c ≡ a → o ≡ a .outcome → s ≡ encode (a .table)
-      → Over image c o s
-  unfolding run
-  over-done a o s h p q =
-      let k = over-run a (if-true (legal t) _ _ (lawful-table image t d) ∙ h) in
-      record { outcome = p ∙ k .outcome; stored = q ∙ k .stored }
+  abbrev t : Table
+  t = table-in image
 
-  -- an act on the partner's entry
-  over-partner : (id : Text) (a : Asked) (room : ℕ) (text : Text) (turn : Entry → Turn)
-      → ((e : Entry) → partner.legal e ≡ true → act a (bare (t .own)) e room text ≡ turn e)
-      → ((e : Entry) → partner.legal e ≡ true → Held e → Keeps e (turn e .entry))
-      → all-octets image ≡ true → perform t c ≡ at-partner t id turn
-      → Over image c (outcome-at a image room text (record-of id image))
-      (image-at a image room text (record-of id image))
-  over-partner id a room text turn acts keeps octets h =
-      over-done (at-partner t id turn) _ _ h (outcome-is image t d id a room text turn acts)
-      (image-is image t d id a room text turn acts octets keeps)
+  module _ (d : decode image ≡ some (table-in image)) where
+    -- what it gives, and the slots with the entry put back
+    pub ends : (u .outcome ≡ run t c .outcome) × (set (t .slots) (s .at) (u .entry) ≡ run t c .table .slots)
+    unfolding table-in
+    ends =
+        let z = way-ends (bare (t .own)) (t .slots) q who text room s
+        (sees image t d a (aim-named q (ours image) who text)) in
+        let g = agrees t (lawful-table image t d) c in (
+          z .0 ∙ ap (λ (x : After). x .outcome) g,
+          z .1 ∙ ap (λ (x : After). x .table .slots) g,
+        )
 
--- ---- 6: reply room under 256
+    pub table-is : holding t (set (t .slots) (s .at) (u .entry)) ≡ run t c .table
+    table-is = λ j. record { own = sym (call.claims .own-stays t c) j; slots = ends .1 j }
 
-short : (t : Table) (room : ℕ) (a : After) → room < 256 → with-room t room a ≡ refuse t 6
-short t room a h = if-true (ltb room 256) _ _ (lt-ltb room 256 h)
+    at-is : s .at ≡ sought a image
+    at-is = ap (λ (x : Sight). x .at) (seen-is image t d a)
 
-enough : (t : Table) (room : ℕ) (a : After) → 256 ≤ room → with-room t room a ≡ a
-enough t room a h = if-false (ltb room 256) _ _ (le-ltb room 256 h)
+    -- in place: the entry that was found is a partner's, and a legal one is put back
+    module _ (p : In-place c) where
+      vacant-no : a .vacant ≡ false
+      vacant-no = not-vacant q (ours image) who text room p
 
-module _ (image : Text) (there : found (decode image) ≡ true) (room : ℕ) (small : room < 256) where
-  pub receive-short : (text : Text) → Over image (receive room text) (refusal 6) image
-  unfolding perform
-  receive-short text =
-      let p = table-there image there in
-      over-refused image (p .0) (p .1) (receive room text) 6 (short (p .0) room _ small)
+      old-full : ltb (s .at) 64 ≡ true → is-empty (getD (t .slots) (s .at) empty) ≡ false
+      old-full h =
+          ap (λ (k : ℕ). is-empty (getD (t .slots) k empty)) at-is
+          ∙ slot-full image t d a (aim-named q (ours image) who text) vacant-no (ap (λ (k : ℕ). ltb k 64) (sym at-is) ∙ h)
 
-  pub build-ksm-short : (id : Text) (q : Request) → Over image (build-ksm room id q) (refusal 6) image
-  unfolding perform
-  build-ksm-short id q =
-      let p = table-there image there in
-      over-refused image (p .0) (p .1) (build-ksm room id q) 6 (short (p .0) room _ small)
+      old-lawful : ltb (s .at) 64 ≡ true → partner.legal (getD (t .slots) (s .at) empty) ≡ true
+      old-lawful h =
+          ⊎-elim (λ e. absurd (true≢false (sym empty-is ∙ ap is-empty (sym e) ∙ old-full h))) (λ w. w .0)
+          (stored-at (t .slots) (decoded image t d .stored) (s .at))
 
-  pub build-rsi-short : (id contents : Text) → Over image (build-rsi room id contents) (refusal 6) image
-  unfolding perform
-  build-rsi-short id contents =
-      let p = table-there image there in
-      over-refused image (p .0) (p .1) (build-rsi room id contents) 6 (short (p .0) room _ small)
+      entry-is : s .entry ≡ getD (t .slots) (s .at) empty
+      unfolding table-in
+      entry-is =
+          ap (λ (x : Sight). x .entry) (seen-is image t d a)
+          ∙ ap (λ (k : ℕ). getD (t .slots) k empty) (sym at-is)
 
--- ---- receive: 1, 2, then at the partner
+      new-full : ltb (s .at) 64 ≡ true → is-empty (u .entry) ≡ false
+      unfolding table-in
+      new-full h =
+          legal-full (u .entry)
+          (take-lawful (ours image) a s q text who room (own-name t (lawful-table image t d))
+          (ap partner.legal entry-is ∙ old-lawful h) p)
 
-module _ (image : Text) (there : found (decode image) ≡ true) (room : ℕ) (roomy : 256 ≤ room) (text : Text) where
-  was-nothing : (o : Option Reading) → opening-of o ≡ heading.Nothing → o ≡ none
-  was-nothing none h = refl
-  was-nothing (some q) h = absurd (let z : _≡_ {A = ℕ} 0 1 = cc in omega arith)
+      pub stored : put-slot (s .at) (u .entry) image ≡ encode (run t c .table)
+      unfolding put-slot
+      stored = go (ltb (s .at) 64) refl
+        where
+          go : (b : Bool) → ltb (s .at) 64 ≡ b → put-slot (s .at) (u .entry) image ≡ encode (run t c .table)
+          go true h =
+              put-slot-is image t d (s .at) (u .entry) (ltb-true (s .at) 64 h) (old-full h) (new-full h) ∙ ap encode table-is
+          go false h =
+              let n = rules t (lawful-table image t d) .slots-64 in
+              let k = ltb-false (s .at) 64 h in
+              ap (λ (b : Bool). cond b (put-back (slot-place (s .at) image) (u .entry) image) image) h ∙ sym (encode-is image t d)
+              ∙ ap (λ (l : List Entry). encode (holding t l)) (sym (set-out (t .slots) (s .at) (u .entry) (omega arith)))
+              ∙ ap encode table-is
 
-  was-read : (o : Option Reading) (head : Head) → opening-of o ≡ heading.Is head
-      → (q : Reading) × ((o ≡ some q) × (head-seen q ≡ head))
-  was-read none head h = absurd (let z : _≡_ {A = ℕ} 0 1 = cc in omega arith)
-  was-read (some q) head h = let k : head-seen q ≡ head = cc in (q, (refl, k))
+  -- what is no image: 13, and nothing is put anywhere
+  pub blind-is : found (decode image) ≡ false → s ≡ blind
+  unfolding seen
+  blind-is h = ap (λ (b : Bool). cond (not b) blind (sighted a image)) h
 
-  pub receive-no-message : opening-of (read text) ≡ heading.Nothing → Over image (receive room text) (refusal 1) image
-  unfolding perform receiving
-  receive-no-message h =
-      let p = table-there image there in
-      over-refused image (p .0) (p .1) (receive room text) 1
-      (enough (p .0) room _ roomy ∙ ap (receiving (p .0) text) (was-nothing (read text) h))
+  is-13 : refusal-of a blind q text room ≡ 13
+  unfolding refusal-of
+  is-13 = holds-first 13 ((ltb room (a .room), 6) ∷ way.by-act q a blind text) (λ z. absurd (omega arith))
 
-  module _ (head : Head) (opens : opening-of (read text) ≡ heading.Is head) where
-    pub receive-not-ours : same (parts.rcv head text) (bare (own-in image)) ≡ false
-        → Over image (receive room text) (refusal 2) image
-    unfolding perform receiving
-    receive-not-ours h =
-        let p = table-there image there in
-        let t = p .0 in
-        let o = was-read (read text) head opens in
-        let q = o .0 in
-        let r : parts.rcv head text ≡ q .rcv =
-        ap (λ (x : Head). parts.rcv x text) (sym (o .1 .1)) ∙ reader.claims .rcv text q (o .1 .0) in
-        let s : same (q .rcv) (bare (t .own)) ≡ false =
-        ap (λ (x : Text). same x (bare (t .own))) (sym r)
-        ∙ ap (λ (x : Text). same (parts.rcv head text) (bare x)) (sym (own-is image t (p .1))) ∙ h in
-        over-refused image t (p .1) (receive room text) 2
-        (enough t room _ roomy ∙ ap (receiving t text) (o .1 .0)
-        ∙ if-true (not (same (q .rcv) (bare (t .own)))) _ _ (ap not s))
+  refused-13 : found (decode image) ≡ false → u ≡ refused empty 13
+  unfolding take
+  refused-13 h =
+      ap (λ (x : Sight). take (ours image) a x q text room) (blind-is h)
+      ∙ ap (λ (n : ℕ). cond (eqb n 0) (turn (ours image) (a .partner) empty q text room) (refused empty n)) is-13
 
-    pub receive-at : all-octets image ≡ true → same (parts.rcv head text) (bare (own-in image)) ≡ true
-        → Over image (receive room text)
-        (outcome-at (plain Receive) image room text (record-of (parts.org head text) image))
-        (image-at (plain Receive) image room text (record-of (parts.org head text) image))
-    unfolding perform receiving
-    receive-at octets h =
-        let p = table-there image there in
-        let t = p .0 in
-        let l = lawful-table image t (p .1) in
-        let o = was-read (read text) head opens in
-        let q = o .0 in
-        let r : parts.rcv head text ≡ q .rcv =
-        ap (λ (x : Head). parts.rcv x text) (sym (o .1 .1)) ∙ reader.claims .rcv text q (o .1 .0) in
-        let g : parts.org head text ≡ q .org =
-        ap (λ (x : Head). parts.org x text) (sym (o .1 .1)) ∙ reader.claims .org text q (o .1 .0) in
-        let s : same (q .rcv) (bare (t .own)) ≡ true =
-        ap (λ (x : Text). same x (bare (t .own))) (sym r)
-        ∙ ap (λ (x : Text). same (parts.rcv head text) (bare x)) (sym (own-is image t (p .1))) ∙ h in
-        let n = own-name t l in
-        rw g (over-partner image t (p .1) (receive room text) (q .org) (plain Receive) room text
-        (λ e. by-class.receive (bare (t .own)) e text (q .body))
-        (λ e f. receive-acts (bare (t .own)) n e f room roomy text q (o .1 .0))
-        (λ e f k. receive-keeps (bare (t .own)) n e f k text q (o .1 .0)) octets
-        (enough t room _ roomy ∙ ap (receiving t text) (o .1 .0)
-        ∙ if-false (not (same (q .rcv) (bare (t .own)))) _ _ (ap not s)))
+  -- the outcome is that of the call over the image
+  pub outcome-is : u .outcome ≡ outcome-over image c
+  unfolding outcome-over
+  outcome-is = go (found (decode image)) refl
+    where
+      go : (b : Bool) → found (decode image) ≡ b → u .outcome ≡ outcome-over image c
+      go true h = let d = table-read image h in ends d .0 ∙ rw (outcome-over, d)
+      go false h = ap (λ (r : Turn). r .outcome) (refused-13 h) ∙ rw (outcome-over, table-missing image h)
 
--- ---- build a KSM, build an RSI, give up: at the partner
+  -- and so is the image, in place: the turned entry put back
+  put-is : In-place c → put-slot (s .at) (u .entry) image ≡ image-over image c
+  unfolding image-over put-slot
+  put-is p = go (found (decode image)) refl
+    where
+      go : (b : Bool) → found (decode image) ≡ b → put-slot (s .at) (u .entry) image ≡ image-over image c
+      go true h = let d = table-read image h in stored d p ∙ rw (image-over, d)
+      go false h =
+          ap (λ (x : Sight). put-slot (x .at) (u .entry) image) (blind-is h) ∙ rw (image-over, table-missing image h)
 
-module _ (image : Text) (there : found (decode image) ≡ true) (id : Text) where
-  pub build-ksm-at : all-octets image ≡ true → (room : ℕ) → 256 ≤ room → (q : Request) → Sized q → (text : Text)
-      → Over image (build-ksm room id q)
-      (outcome-at (record { act = BuildKsm; request = q }) image room text (record-of id image))
-      (image-at (record { act = BuildKsm; request = q }) image room text (record-of id image))
-  unfolding perform
-  build-ksm-at octets room roomy q sized text =
-      let p = table-there image there in
-      let t = p .0 in
-      let l = lawful-table image t (p .1) in
-      let n = own-name t l in
-      over-partner image t (p .1) (build-ksm room id q) id (record { act = BuildKsm; request = q }) room text
-      (λ e. building.build-ksm (bare (t .own)) e q)
-      (λ e f. build-ksm-acts (bare (t .own)) n e f room roomy text q)
-      (λ e f k. build-ksm-keeps (bare (t .own)) n e f k q sized)
-      octets (enough t room _ roomy)
+  -- or, with a refusal before the turn, as it was
+  kept-is : (refusal-of a s q text room ≡ 0 → ⊥) → image ≡ image-over image c
+  unfolding image-over
+  kept-is n = go (found (decode image)) refl
+    where
+      go : (b : Bool) → found (decode image) ≡ b → image ≡ image-over image c
+      go true h =
+          let d = table-read image h in
+          let o : run t c .outcome .answer ≡ refusal-of a s q text room =
+          sym (ap (λ (x : Outcome). x .answer) (ends d .0))
+          ∙ ap (λ (r : Turn). r .outcome .answer) (way-refused (ours image) a s q text room _ refl n) in
+          sym (encode-is image t d) ∙ ap encode (sym (call.claims .unless-done-nothing-changes t c (λ z. n (sym o ∙ z))))
+          ∙ rw (image-over, d)
+      go false h = rw (image-over, table-missing image h)
 
-  pub build-rsi-at : (room : ℕ) → 256 ≤ room → (contents : Text)
-      → outcome-at (plain BuildRsi) image room contents (record-of id image)
-      ≡ outcome-over image (build-rsi room id contents)
-  unfolding perform
-  build-rsi-at room roomy contents =
-      let p = table-there image there in
-      let t = p .0 in
-      let l = lawful-table image t (p .1) in
-      over-done image t (p .1) (build-rsi room id contents)
-      (at-partner t id (λ e. building.build-rsi (bare (t .own)) e contents)) _ _ (enough t room _ roomy)
-      (outcome-is image t (p .1) id (plain BuildRsi) room contents (λ e. building.build-rsi (bare (t .own)) e contents)
-      (λ e f. build-rsi-acts (bare (t .own)) (own-name t l) e f room roomy contents)) refl .outcome
+  image-is : In-place c → put-in a image q text room ≡ image-over image c
+  image-is p = go (eqb (refusal-of a s q text room) 0) refl
+    where
+      go : (b : Bool) → eqb (refusal-of a s q text room) 0 ≡ b → put-in a image q text room ≡ image-over image c
+      go true h = ap (λ (b : Bool). cond b (put-slot (s .at) (u .entry) image) image) h ∙ put-is p
+      go false h =
+          ap (λ (b : Bool). cond b (put-slot (s .at) (u .entry) image) image) h ∙ kept-is (eqb-false (refusal-of a s q text room) 0 h)
 
-  pub give-up-at : all-octets image ≡ true → (room : ℕ) (text : Text)
-      → Over image (give-up id) (outcome-at (plain GiveUp) image room text (record-of id image))
-      (image-at (plain GiveUp) image room text (record-of id image))
-  unfolding perform
-  give-up-at octets room text =
-      let p = table-there image there in
-      let t = p .0 in
-      over-partner image t (p .1) (give-up id) id (plain GiveUp) room text building.give-up
-      (λ e f. give-up-acts (bare (t .own)) e room text)
-      (λ e f k. give-up-keeps (bare (t .own)) (own-name t (lawful-table image t (p .1))) e f k) octets refl
+-- a call that changes the image in place
+pub called : (q : Act) (image who text buffer : Text) (r : Report) (image′ buffer′ : Text)
+    → In-place (call-of q (length buffer) who text) → Changed q image who text buffer r image′ buffer′
+    → Called image (call-of q (length buffer) who text) buffer r image′ buffer′
+called q image who text buffer r image′ buffer′ p k =
+    let o = outcome-is q image who text (length buffer) in
+    record {
+      told = k .told ∙ ap report o;
+      stored = k .stored ∙ image-is q image who text (length buffer) p;
+      reply = k .reply ∙ ap (λ (x : Outcome). replied x buffer) o;
+    }

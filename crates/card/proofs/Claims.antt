@@ -14,25 +14,25 @@ use Rattle.keying.specs.declared.Top.{Top}
 use Rattle.partner.specs.declared.Entry.{Entry}
 use Rattle.partner.specs.Entry.{name-of}
 use Rattle.partner.proofs.Naming.{filled-filled}
-use Rattle.image.specs.Table.{Table, place}
+use Rattle.partner.specs.Table.{Table, place}
 use Rattle.image.specs.Image.{decode, encode, found}
 use Rattle.image.proofs.Images.{table-there}
 use Rattle.image.proofs.Claims as stored
 use Rattle.calls.specs.Outcome.{Outcome, nothing, refusal, success}
 use Rattle.calls.specs.Calls as calls
-use Rattle.calls.specs.Calls.{Call, load, remove, After, entry-of, turned, at-partner, placed, loading}
+use Rattle.calls.specs.Calls.{Call, load, about, remove, After, entry-of, turned, at-partner, placed, loading}
 use Rattle.calls.specs.Calls.{emptied, perform, run}
 use Rattle.calls.proofs.Tests.{by-case}
 use Rattle.calls.proofs.Claims as call
 use Rattle.calls.specs.Orders.{answers}
 use Rattle.calls.proofs.Orders.{has-0, orders}
+use Rattle.outcome.specs.Report.{replied}
 use Rattle.card.specs.Over.{outcome-over, image-over}
 use Rattle.card.specs.Whole.{body-of, ask-over, start-over, delivering, top-in, load-with, load-over}
 use Rattle.card.specs.Whole.{remove-over}
 use Rattle.card.specs.Claims.{Of-64-bits, Done-or-refused, New-image, Claims}
-use Rattle.card.proofs.Steps.{top-fits}
-use Rattle.card.proofs.Turning.{lawful-table, encode-is}
-use Rattle.card.proofs.Calling.{refused-reply}
+use Rattle.card.proofs.Keys.{top-fits}
+use Rattle.card.proofs.Tables.{lawful-table, encode-is}
 use Rattle.card.proofs.Staying.{run-holds, run-long}
 
 -- ---- every call over an image
@@ -56,8 +56,12 @@ bare image c =
     by-image image c (λ o s. (o .answer ≡ 0 → ⊥) → (o .answer ≡ 4 → ⊥) → o ≡ refusal (o .answer))
     (λ h k. refl) (λ t d. call.claims .refusals-are-bare t c)
 
+untouched : (o : Outcome) (n : ℕ) (buffer : Text) → o ≡ refusal n → replied o buffer ≡ buffer
+unfolding replied
+untouched o n buffer p = ap (λ (x : Outcome). replied x buffer) p
+
 -- the image of the table after a call reads as that table
-written-read : (image : Text) (t : Table) (c : Call) → all-octets image ≡ true → Of-64-bits c → decode image ≡ some t
+pub written-read : (image : Text) (t : Table) (c : Call) → all-octets image ≡ true → Of-64-bits c → decode image ≡ some t
     → decode (encode (run t c .table)) ≡ some (run t c .table)
 written-read image t c o f d =
     let l = lawful-table image t d in
@@ -130,9 +134,11 @@ load-runs-so t id name top =
     go none = refused-so _ (omega arith)
     go (some slots) = done-so []
 
-remove-runs-so : (t : Table) (id : Text) → Settled (run t (remove id))
+remove-runs-so : (t : Table) (id : Text) → Settled (run t (about id remove))
 unfolding run perform at-partner
-remove-runs-so t id = by-case Settled _ _ _ (λ _. go (entry-of id t)) (λ _. refused-so _ (omega arith))
+remove-runs-so t id =
+    by-case Settled _ _ _ (λ _. by-case Settled _ _ _ (λ _. refused-so _ (omega arith)) (λ _. go (entry-of id t)))
+    (λ _. refused-so _ (omega arith))
   where
     go : (o : Option Entry) → Settled (turned t id emptied o)
     go none = refused-so _ (omega arith)
@@ -153,7 +159,7 @@ unfolding remove-over
 remove-so image room id =
     by-table image Done-or-refused _ (refused-so _ (omega arith)) λ t d.
     by-case Done-or-refused _ _ _ (λ _. refused-so _ (omega arith)) λ _.
-    deliver-so (run t (remove id)) (remove-runs-so t id)
+    deliver-so (run t (about id remove)) (remove-runs-so t id)
 
 -- ---- new images
 
@@ -195,7 +201,7 @@ remove-new : (image : Text) (room : ℕ) (id : Text) → all-octets image ≡ tr
 unfolding remove-over
 remove-new image room id o =
     by-table image New-image _ (refused-new 13 refl) λ t d.
-    by-case New-image _ _ _ (λ _. refused-new 6 refl) (λ _. deliver-new image t (remove id) o tt d)
+    by-case New-image _ _ _ (λ _. refused-new 6 refl) (λ _. deliver-new image t (about id remove) o tt d)
 
 -- ---- together
 
@@ -208,7 +214,7 @@ claims = record {
       by-image image c (λ o s. (o .answer ≡ 0 → ⊥) → s ≡ image) (λ h. refl)
       (λ t d h. ap encode (call.claims .unless-done-nothing-changes t c h) ∙ encode-is image t d);
   refusals-are-bare = bare;
-  refusals-write-nothing = λ image c buffer h k. sym (refused-reply _ _ buffer (bare image c h k));
+  refusals-write-nothing = λ image c buffer h k. untouched _ _ buffer (bare image c h k);
   stays-legal = over-read;
   length-stays = λ image c o f p.
       by-image image c (λ x s. length s ≡ length image) refl (λ t d. run-long image t d o c f p);

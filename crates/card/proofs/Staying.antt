@@ -1,10 +1,11 @@
 -- What a call leaves in a legal table: entries whose fields fit their types, and an image of the same length.
-use mathlib.Core.Path.{_≡_, refl, ap, _∙_, subst}
+use mathlib.Core.Path.{_≡_, refl, sym, ap, _∙_, subst}
 use mathlib.Core.Bool.{Bool, true, false, cond}
-use mathlib.Core.List.{List, [], _∷_}
+use mathlib.Core.List.{List, [], _∷_, _++_}
 use mathlib.Core.Option.{Option, none, some}
-use Prim.Native.Nat.{ℕ}
-use lib.ListN.{length}
+use Prim.Native.Nat.{ℕ, suc, _+_}
+use native.Mathlib.Omega.{arith}
+use lib.ListN.{length, length-append}
 use borrow.Author.Tests.{not-false}
 use Rattle.octets.specs.Text.{Text, same, is-name}
 use Rattle.octets.specs.Part.{bare, all-octets}
@@ -12,35 +13,31 @@ use Rattle.octets.proofs.Comparing.{both}
 use Rattle.csm.specs.Message.{Reading, read}
 use Rattle.csm.proofs.TextLaws.{none-some, some-inj}
 use Rattle.keying.specs.declared.Top.{Top}
-use Rattle.partner.specs.declared.Name.{Name}
 use Rattle.partner.specs.declared.Entry.{Entry}
 use Rattle.partner.specs.Entry.{filled, name-of}
 use Rattle.partner.specs.Changes.{loaded}
 use Rattle.partner.specs.Held.{Held}
 use Rattle.partner.specs.Legal as partner
 use Rattle.partner.proofs.Holding.{held-name-of, held-loaded}
-use Rattle.image.specs.Table.{Table, AllHeld, legal, is-empty, find, put, place, behind, holding}
-use Rattle.image.specs.Image.{decode, encode}
-use Rattle.image.specs.Places.{entry-at, entry-there, with-entry}
-use Rattle.image.proofs.Entries.{empty-held}
-use Rattle.image.proofs.Updates.{entry-at-held}
+use Rattle.partner.specs.Table.{Table, AllHeld, legal, is-empty, find, put, place, behind, holding}
+use Rattle.partner.proofs.Claims as entries
+use Rattle.image.specs.Image.{decode, encode, slot-bytes, slots-bytes}
+use Rattle.image.proofs.Entries.{empty-held, legal-full}
 use Rattle.image.proofs.Claims.{claims}
 use Rattle.calls.specs.Outcome.{Turn}
-use Rattle.calls.specs.Calls.{Call, receive, build-ksm, build-rsi, give-up, load, remove, ask, After}
+use Rattle.calls.specs.Calls.{Act, build-ksm, build-rsi, give-up, remove, ask, Call, receive, about, load, After}
 use Rattle.calls.specs.Calls.{entry-of, turned, at-partner, receiving, placed, loading, emptied, told}
-use Rattle.calls.specs.Calls.{perform, run}
+use Rattle.calls.specs.Calls.{acting, perform, run}
 use Rattle.calls.proofs.Tests.{by-case}
 use Rattle.calls.proofs.Tables.{own-name, entry-held, held-legal}
-use Rattle.card.specs.Claims.{Of-64-bits, In-place}
-use Rattle.card.specs.Ways.{record-of}
-use Rattle.card.proofs.Steps.{record-place}
+use Rattle.card.specs.Claims.{Act-of-64-bits, Of-64-bits, Act-in-place, In-place}
 use Rattle.card.proofs.Fitting.{name-octets, Keeps, receive-keeps, build-ksm-keeps, build-rsi-keeps}
 use Rattle.card.proofs.Fitting.{give-up-keeps}
-use Rattle.card.proofs.Turning.{lawful-table, encode-is, entry-is}
+use Rattle.card.proofs.Tables.{lawful-table, encode-is}
 
 -- ---- rows
 
-find-held : (id : Text) (slots : List Entry) (e : Entry) → AllHeld slots → find id slots ≡ some e → Held e
+pub find-held : (id : Text) (slots : List Entry) (e : Entry) → AllHeld slots → find id slots ≡ some e → Held e
 find-held id [] e h q = absurd (none-some _ q)
 find-held id (f ∷ slots) e (k, h) q = go (same (f .identity .bytes) id) (λ r. find-held id slots e h r) q
   where
@@ -107,20 +104,21 @@ module _ (t : Table) (lawful : legal t ≡ true) (all : AllHeld (t .slots)) wher
           (held-loaded (name-of id) (name-of name) top (held-name-of id (name-octets id i))
           (held-name-of name (name-octets name n)) (f .0) (f .1)) all q
 
+  act-holds : (a : Act) (id : Text) → Act-of-64-bits a → Holds (at-partner t id (acting (bare (t .own)) a))
+  act-holds (build-ksm room q) id f =
+      partner-holds id _ (λ e l k. build-ksm-keeps (bare (t .own)) (own-name t lawful) e l k q f .held)
+  act-holds (build-rsi room contents) id f =
+      partner-holds id _ (λ e l k. build-rsi-keeps (bare (t .own)) (own-name t lawful) e l k contents .held)
+  act-holds give-up id f =
+      partner-holds id _ (λ e l k. give-up-keeps (bare (t .own)) (own-name t lawful) e l k .held)
+  act-holds remove id f = partner-holds id emptied (λ e l k. empty-held)
+  act-holds ask id f = partner-holds id told (λ e l k. k)
+
   perform-holds : (c : Call) → Of-64-bits c → Holds (perform t c)
   unfolding perform
   perform-holds (receive room text) f = by-case Holds _ _ _ (λ _. all) (λ _. receive-holds text (read text) refl)
-  perform-holds (build-ksm room id q) f =
-      by-case Holds _ _ _ (λ _. all) λ _.
-      partner-holds id _ (λ e l k. build-ksm-keeps (bare (t .own)) (own-name t lawful) e l k q f .held)
-  perform-holds (build-rsi room id contents) f =
-      by-case Holds _ _ _ (λ _. all) λ _.
-      partner-holds id _ (λ e l k. build-rsi-keeps (bare (t .own)) (own-name t lawful) e l k contents .held)
-  perform-holds (give-up id) f =
-      partner-holds id _ (λ e l k. give-up-keeps (bare (t .own)) (own-name t lawful) e l k .held)
+  perform-holds (about id a) f = by-case Holds _ _ _ (λ _. all) (λ _. act-holds a id f)
   perform-holds (load id name top) f = load-holds id name top f
-  perform-holds (remove id) f = partner-holds id emptied (λ e l k. empty-held)
-  perform-holds (ask id) f = partner-holds id told (λ e l k. k)
 
   -- every entry of the table after a call fits its types
   pub run-holds : (c : Call) → Of-64-bits c → Holds (run t c)
@@ -128,6 +126,30 @@ module _ (t : Table) (lawful : legal t ≡ true) (all : AllHeld (t .slots)) wher
   run-holds c f = by-case Holds _ _ _ (λ _. perform-holds c f) (λ _. all)
 
 -- ---- lengths
+
+-- where a record is put in place of one that is as long, the slots' records are as long as they were
+put-long : (id : Text) (f : Entry) (slots : List Entry) (e : Entry) → find id slots ≡ some e
+    → length (slot-bytes f) ≡ length (slot-bytes e) → length (slots-bytes (put id f slots)) ≡ length (slots-bytes slots)
+put-long id f [] e q h = absurd (none-some _ q)
+put-long id f (g ∷ slots) e q h = go (same (g .identity .bytes) id) q (put-long id f slots e)
+  where
+    go : (b : Bool) → cond b (some g) (find id slots) ≡ some e
+        → (find id slots ≡ some e → length (slot-bytes f) ≡ length (slot-bytes e)
+        → length (slots-bytes (put id f slots)) ≡ length (slots-bytes slots))
+        → length (slots-bytes (cond b (f ∷ slots) (g ∷ put id f slots))) ≡ length (slot-bytes g ++ slots-bytes slots)
+    go true q r =
+        let i : g ≡ e = some-inj q in
+        length-append (slot-bytes f) (slots-bytes slots)
+        ∙ ap (λ (n : ℕ). n + length (slots-bytes slots)) (h ∙ ap (λ (x : Entry). length (slot-bytes x)) (sym i))
+        ∙ sym (length-append (slot-bytes g) (slots-bytes slots))
+    go false q r =
+        length-append (slot-bytes g) (slots-bytes (put id f slots))
+        ∙ ap (λ (n : ℕ). length (slot-bytes g) + n) (r q h) ∙ sym (length-append (slot-bytes g) (slots-bytes slots))
+
+-- a legal entry's record has 157 bytes
+record-157 : (e : Entry) → partner.legal e ≡ true → Held e → length (slot-bytes e) ≡ 157
+unfolding slot-bytes
+record-157 e l h = rw (legal-full e l) (omega (arith, entries.claims .record-has-156-bytes e h))
 
 module _ (image : Text) (t : Table) (d : decode image ≡ some t) (octets : all-octets image ≡ true) where
   abbrev As-long : After → Type 0
@@ -138,26 +160,20 @@ module _ (image : Text) (t : Table) (d : decode image ≡ some t) (octets : all-
 
   partner-long : (id : Text) (turn : Entry → Turn)
       → ((e : Entry) → partner.legal e ≡ true → Held e → Keeps e (turn e .entry)) → As-long (at-partner t id turn)
-  unfolding at-partner
-  partner-long id turn keeps = go (record-of id image) refl
+  unfolding at-partner encode
+  partner-long id turn keeps = go (entry-of id t) refl
     where
-      there : (o : Option ℕ) → record-of id image ≡ o → entry-of id t ≡ entry-there image o
-      there o p = entry-is image t d id ∙ ap (entry-there image) p
-
-      go : (o : Option ℕ) → record-of id image ≡ o → As-long (turned t id turn (entry-of id t))
-      go none p =
-          ap (λ (e : Option Entry). length (encode (turned t id turn e .table))) (there none p) ∙ unchanged
-      go (some at) p =
-          let e = entry-at at image in
-          let k = entry-held t id e (there (some at) p) in
-          let f = keeps e (held-legal t id e (lawful-table image t d) k) (entry-at-held at image octets) in
-          let i = ap (λ (n : Name). n .bytes) (f .identity) ∙ k .identity in
-          let b =
-          claims .entry-put-back image t (filled id) at (turn e .entry) d (record-place id image at p) (f .lawful)
-          (f .held) i in
-          let u = holding t (put (filled id) (turn e .entry) (t .slots)) in
-          ap (λ (e : Option Entry). length (encode (turned t id turn e .table))) (there (some at) p)
-          ∙ ap length (claims .read-then-write (with-entry at (turn e .entry) image) u (b .0) .1) ∙ b .1
+      go : (o : Option Entry) → entry-of id t ≡ o → As-long (turned t id turn o)
+      go none q = unchanged
+      go (some e) q =
+          let k = entry-held t id e q in
+          let l = held-legal t id e (lawful-table image t d) k in
+          let h = find-held (filled id) (t .slots) e (claims .read-is-held image t octets d) (k .found) in
+          let f = keeps e l h in
+          let n = put-long (filled id) (turn e .entry) (t .slots) e (k .found)
+          (record-157 (turn e .entry) (f .lawful) (f .held) ∙ sym (record-157 e l h)) in
+          ap suc (length-append (t .own) (slots-bytes (put (filled id) (turn e .entry) (t .slots)))
+          ∙ ap (λ (m : ℕ). length (t .own) + m) n ∙ sym (length-append (t .own) (slots-bytes (t .slots)))) ∙ unchanged
 
   own : is-name (bare (t .own)) ≡ true
   own = own-name t (lawful-table image t d)
@@ -169,20 +185,21 @@ module _ (image : Text) (t : Table) (d : decode image ≡ some t) (octets : all-
       by-case As-long _ _ _ (λ _. unchanged) λ _.
       partner-long (r .org) _ (λ e l k. receive-keeps (bare (t .own)) own e l k text r q)
 
+  act-long : (a : Act) (id : Text) → Act-of-64-bits a → Act-in-place a
+      → As-long (at-partner t id (acting (bare (t .own)) a))
+  act-long (build-ksm room q) id f p = partner-long id _ (λ e l k. build-ksm-keeps (bare (t .own)) own e l k q f)
+  act-long (build-rsi room contents) id f p =
+      partner-long id _ (λ e l k. build-rsi-keeps (bare (t .own)) own e l k contents)
+  act-long give-up id f p = partner-long id _ (λ e l k. give-up-keeps (bare (t .own)) own e l k)
+  act-long remove id f p = absurd p
+  act-long ask id f p = partner-long id told (λ e l k. record { lawful = l; held = k; identity = refl })
+
   perform-long : (c : Call) → Of-64-bits c → In-place c → As-long (perform t c)
   unfolding perform
   perform-long (receive room text) f p =
       by-case As-long _ _ _ (λ _. unchanged) (λ _. receive-long text (read text) refl)
-  perform-long (build-ksm room id q) f p =
-      by-case As-long _ _ _ (λ _. unchanged) λ _.
-      partner-long id _ (λ e l k. build-ksm-keeps (bare (t .own)) own e l k q f)
-  perform-long (build-rsi room id contents) f p =
-      by-case As-long _ _ _ (λ _. unchanged) λ _.
-      partner-long id _ (λ e l k. build-rsi-keeps (bare (t .own)) own e l k contents)
-  perform-long (give-up id) f p = partner-long id _ (λ e l k. give-up-keeps (bare (t .own)) own e l k)
+  perform-long (about id a) f p = by-case As-long _ _ _ (λ _. unchanged) (λ _. act-long a id f p)
   perform-long (load id name top) f p = absurd p
-  perform-long (remove id) f p = absurd p
-  perform-long (ask id) f p = partner-long id told (λ e l k. record { lawful = l; held = k; identity = refl })
 
   -- the image of the table after a call in place is as long as it was
   pub run-long : (c : Call) → Of-64-bits c → In-place c → As-long (run t c)

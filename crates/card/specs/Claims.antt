@@ -10,11 +10,11 @@ use Rattle.octets.specs.Part.{all-octets}
 use Rattle.keying.specs.declared.Top.{Top}
 use Rattle.keying.specs.declared.Top.the-variants.{Single, Pair}
 use Rattle.partner.specs.Changes.{left-of, right-of}
-use Rattle.image.specs.Table.{Table}
+use Rattle.partner.specs.Table.{Table}
 use Rattle.image.specs.Image.{decode, found}
 use Rattle.calls.specs.declared.Request.{Request}
 use Rattle.calls.specs.Outcome.{Outcome, nothing, refusal, complaint, success}
-use Rattle.calls.specs.Calls.{Call, receive, build-ksm, build-rsi, give-up, load, remove, ask, run}
+use Rattle.calls.specs.Calls.{Act, build-ksm, build-rsi, give-up, remove, ask, Call, receive, about, load, run}
 use Rattle.calls.specs.Claims.{Sized}
 use Rattle.calls.specs.Orders.{answers}
 use Rattle.outcome.specs.Report.{replied}
@@ -22,24 +22,30 @@ use Rattle.card.specs.Over.{outcome-over, image-over}
 use Rattle.card.specs.Whole.{ask-over, start-over, load-over, remove-over}
 
 -- keys and IV are of 64 bits; in bytes they are
+abbrev pub Act-of-64-bits : Act → Type 0
+Act-of-64-bits (build-ksm room q) = Sized q
+Act-of-64-bits (build-rsi room contents) = Unit {0}
+Act-of-64-bits give-up = Unit {0}
+Act-of-64-bits remove = Unit {0}
+Act-of-64-bits ask = Unit {0}
+
 abbrev pub Of-64-bits : Call → Type 0
 Of-64-bits (receive room text) = Unit {0}
-Of-64-bits (build-ksm room id q) = Sized q
-Of-64-bits (build-rsi room id contents) = Unit {0}
-Of-64-bits (give-up id) = Unit {0}
+Of-64-bits (about id a) = Act-of-64-bits a
 Of-64-bits (load id name top) = (left-of top < 2 ^ 64) × (right-of top < 2 ^ 64)
-Of-64-bits (remove id) = Unit {0}
-Of-64-bits (ask id) = Unit {0}
 
 -- the calls but load and remove, which add a record or take one out
+abbrev pub Act-in-place : Act → Type 0
+Act-in-place (build-ksm room q) = Unit {0}
+Act-in-place (build-rsi room contents) = Unit {0}
+Act-in-place give-up = Unit {0}
+Act-in-place remove = ⊥
+Act-in-place ask = Unit {0}
+
 abbrev pub In-place : Call → Type 0
 In-place (receive room text) = Unit {0}
-In-place (build-ksm room id q) = Unit {0}
-In-place (build-rsi room id contents) = Unit {0}
-In-place (give-up id) = Unit {0}
+In-place (about id a) = Act-in-place a
 In-place (load id name top) = ⊥
-In-place (remove id) = ⊥
-In-place (ask id) = Unit {0}
 
 -- unless it is done, a bare refusal with one of the paper's numbers
 pub record Done-or-refused (o : Outcome) : Type 0 where
@@ -83,15 +89,15 @@ pub record Claims : Type 0 where
       → New-image (remove-over image room id)
   -- the words above: which calls are in place, of which numbers 64 bits are asked, what no refusal and no image is
   pub kept-in-place : (room : ℕ) (id text : Text) (q : Request)
-      → In-place (receive room text) × (In-place (build-ksm room id q) × (In-place (build-rsi room id text)
-      × (In-place (give-up id) × In-place (ask id))))
+      → In-place (receive room text) × (In-place (about id (build-ksm room q)) × (In-place (about id (build-rsi room text))
+      × (In-place (about id give-up) × In-place (about id ask))))
   pub load-adds : (id name : Text) (top : Top) → In-place (load id name top) → ⊥
-  pub remove-takes-out : (id : Text) → In-place (remove id) → ⊥
+  pub remove-takes-out : (id : Text) → In-place (about id remove) → ⊥
   pub without-numbers : (room : ℕ) (id text : Text)
-      → Of-64-bits (receive room text) × (Of-64-bits (build-rsi room id text) × (Of-64-bits (give-up id)
-      × (Of-64-bits (remove id) × Of-64-bits (ask id))))
+      → Of-64-bits (receive room text) × (Of-64-bits (about id (build-rsi room text)) × (Of-64-bits (about id give-up)
+      × (Of-64-bits (about id remove) × Of-64-bits (about id ask))))
   pub request-of-64-bits : (room : ℕ) (id : Text) (q : Request)
-      → q .first .key < 2 ^ 64 → q .second .key < 2 ^ 64 → q .iv < 2 ^ 64 → Of-64-bits (build-ksm room id q)
+      → q .first .key < 2 ^ 64 → q .second .key < 2 ^ 64 → q .iv < 2 ^ 64 → Of-64-bits (about id (build-ksm room q))
   pub single-of-64-bits : (id name : Text) (key : ℕ) → key < 2 ^ 64 → Of-64-bits (load id name (Single key))
   pub pair-of-64-bits : (id name : Text) (left right : ℕ) → left < 2 ^ 64 → right < 2 ^ 64
       → Of-64-bits (load id name (Pair left right))

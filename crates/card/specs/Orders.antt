@@ -14,11 +14,11 @@ use Rattle.keying.specs.Keys.{odd-top}
 use Rattle.partner.specs.declared.Entry.{Entry}
 use Rattle.partner.specs.Entry.{filled}
 use Rattle.partner.specs.Record.{entry-bytes}
-use Rattle.image.specs.Table.{Table, identities}
+use Rattle.partner.specs.Table.{Table, identities}
 use Rattle.image.specs.Image.{decode}
 use Rattle.calls.specs.declared.Request.{Request}
 use Rattle.calls.specs.Outcome.{nothing, refusal, success}
-use Rattle.calls.specs.Calls.{Call, receive, build-ksm, build-rsi, entry-of}
+use Rattle.calls.specs.Calls.{Call, receive, about, build-ksm, build-rsi, entry-of}
 use Rattle.calls.specs.Good.{Good-identity}
 use Rattle.card.specs.Over.{outcome-over}
 use Rattle.card.specs.Whole.{ask-over, start-over, top-in, load-over, remove-over}
@@ -29,9 +29,9 @@ pub record Orders : Type 0 where
   pub receive-6 : (image : Text) (t : Table) (room : ℕ) (text : Text) → decode image ≡ some t → room < 256
       → outcome-over image (receive room text) ≡ refusal 6
   pub build-ksm-6 : (image : Text) (t : Table) (room : ℕ) (id : Text) (q : Request) → decode image ≡ some t → room < 256
-      → outcome-over image (build-ksm room id q) ≡ refusal 6
+      → outcome-over image (about id (build-ksm room q)) ≡ refusal 6
   pub build-rsi-6 : (image : Text) (t : Table) (room : ℕ) (id contents : Text) → decode image ≡ some t → room < 256
-      → outcome-over image (build-rsi room id contents) ≡ refusal 6
+      → outcome-over image (about id (build-rsi room contents)) ≡ refusal 6
   -- ask: 13, 6, 3, else the body of the entry's record
   pub ask-13 : (image : Text) (room : ℕ) (id : Text) → decode image ≡ none → ask-over image room id ≡ refusal 13
   pub ask-6 : (image : Text) (t : Table) (room : ℕ) (id : Text) → decode image ≡ some t → room < 256

@@ -1,74 +1,104 @@
--- The way of a call over the image's bytes: the head of a text, where a partner's record stands, the turn of its entry.
--- On a legal image this is the way over its table (proofs/Turning.antt).
-use mathlib.Core.Bool.{Bool, not, _&&_}
+-- The way of a call over the image's bytes, as the code takes it: what is seen of the image, the turn of the entry, the
+-- entry put back. On the image of a table it is the way over that table (proofs/Calling.antt); no public contract cites it.
+use mathlib.Core.Path.{_≡_}
+use mathlib.Core.Bool.{Bool, true, false, cond, not}
+use mathlib.Core.List.{[]}
 use mathlib.Core.Option.{Option, none, some}
 use Prim.Native.Nat.{ℕ}
-use Rattle.octets.specs.Text.{Text, same, is-name}
+use lib.Dec.{eqb, ltb}
+use lib.ListN.{length, drop, getD}
+use Rattle.octets.specs.Text.{Text}
 use Rattle.octets.specs.Part.{bare}
 use Rattle.keying.specs.declared.Top.{Top}
-use Rattle.csm.specs.Message.{Reading}
-use Rattle.reader.specs.Seen.{head-seen}
-use Rattle.partner.specs.Entry.{filled}
-use Rattle.image.specs.Image.{found}
-use Rattle.image.specs.Places.{own-in, entry-at, place-of}
-use Rattle.image.specs.Results.{put-back}
-use Rattle.calls.specs.Words.{if_then_else_}
-use Rattle.calls.specs.Outcome.{Outcome, Turn, refusal}
-use Rattle.outcome.specs.declared.Act.{Act}
-use Rattle.outcome.specs.declared.Asked.{Asked}
+use Rattle.keying.specs.declared.Top.the-variants.{Single}
+use Rattle.partner.specs.Entry.{empty}
+use Rattle.image.specs.Image.{decode, found, slots-in}
+use Rattle.image.specs.Places.{own-in, slot-of, free-slot}
+use Rattle.image.specs.Results.{put-slot}
+use Rattle.calls.specs.Outcome.{Turn}
 use Rattle.outcome.specs.declared.Report.{Report}
-use Rattle.outcome.specs.declared.Telling.the-variants.{Nothing}
-use Rattle.outcome.specs.Acts.{no-request, act}
-use Rattle.outcome.specs.Report.{no-date}
-use Rattle.card.specs.declared.way.Opening.{Opening}
-use Rattle.card.specs.declared.way.Opening.the-variants as heading
-use Rattle.card.specs.declared.whole.TopKey.{TopKey}
-use Rattle.card.specs.declared.whole.TopKey.the-variants as top-key
+use Rattle.outcome.specs.Report.{report, replied}
+use Rattle.sight.specs.declared.aims.Act.{Act}
+use Rattle.sight.specs.declared.aims.Aim.{Aim}
+use Rattle.sight.specs.declared.Sight.{Sight}
+use Rattle.sight.specs.declared.Found.{Found}
+use Rattle.sight.specs.Aim.{aim-of}
+use Rattle.turn.specs.Way.{refusal, take}
+use Rattle.card.specs.Whole.{top-in}
 
--- ---- the text
+-- ---- whom a call is about
 
--- the lengths of RCV and ORG, or nothing where the text is no message
-abbrev pub opening-of : Option Reading → Opening
-opening-of none = heading.Nothing
-opening-of (some q) = heading.Is (head-seen q)
+-- our own identity, bare
+abbrev pub ours : Text → Text
+ours image = bare (own-in image)
 
--- ---- the partner
+abbrev pub aim : Act → Text → Text → Text → Aim
+aim q image who text = aim-of q (ours image) who text
 
--- where a partner's record stands; a malformed identity is nobody's
-unfoldable pub record-of : Text → Text → Option ℕ
-record-of id image = if is-name id then place-of (filled id) image else none
+-- ---- what is seen
 
--- an identity for a new partner: well-formed, not our own, not taken
-unfoldable pub is-new : Text → Text → Bool
-is-new id image = is-name id && (not (same (own-in image) (filled id)) && not (found (place-of (filled id) image)))
+-- the slot of the partner whom an aim names; 64 where there is none
+unfoldable pub theirs : Aim → Text → ℕ
+theirs a image = cond (not (a .theirs)) 64 (slot-of (a .partner .bytes) image)
 
--- ---- the turn
+-- the slot that is sought; 64 where there is none
+unfoldable pub sought : Aim → Text → ℕ
+sought a image = cond (a .vacant) (free-slot image) (theirs a image)
 
--- an act without a request
-abbrev pub plain : Act → Asked
-plain a = record { act = a; request = no-request }
+-- of what is no legal image nothing
+abbrev pub blind : Sight
+blind = record { legal = false; taken = false; there = false; at = 64; entry = empty }
 
--- what is made of the entry at a place
-abbrev pub turn-at : Asked → Text → ℕ → ℕ → Text → Turn
-turn-at a image at room text = act a (bare (own-in image)) (entry-at at image) room text
+abbrev pub sighted : Aim → Text → Sight
+sighted a image = record {
+  legal = true;
+  taken = ltb (theirs a image) 64;
+  there = ltb (sought a image) 64;
+  at = sought a image;
+  entry = getD (slots-in 64 (drop 17 image)) (sought a image) empty;
+}
 
--- 3, or the outcome of the turn of the entry at a place
-unfoldable pub outcome-at : Asked → Text → ℕ → Text → Option ℕ → Outcome
-outcome-at a image room text none = refusal 3
-outcome-at a image room text (some at) = turn-at a image at room text .outcome
+unfoldable pub seen : Aim → Text → Sight
+seen a image = cond (not (found (decode image))) blind (sighted a image)
 
--- the image with the entry put back
-unfoldable pub image-at : Asked → Text → ℕ → Text → Option ℕ → Text
-image-at a image room text none = image
-image-at a image room text (some at) = put-back at (turn-at a image at room text .entry) image
+-- ---- the turn, and the entry put back
 
--- ---- results
+-- the refusal that comes before the turn, the number of the slot, and its entry
+abbrev pub found-in : Aim → Text → Act → Text → ℕ → Found
+found-in a image q text room = record {
+  answer = refusal a (seen a image) q text room;
+  slot = seen a image .at;
+  entry = seen a image .entry;
+}
 
--- 0, and the length of what was written
-abbrev pub length-report : ℕ → Report
-length-report n = record { answer = 0; letters = 0; length = n; telling = Nothing; date = no-date }
+abbrev pub turn-in : Aim → Text → Act → Text → ℕ → Turn
+turn-in a image q text room = take (ours image) a (seen a image) q text room
 
--- a top key or nothing
-abbrev pub top-seen : Option Top → TopKey
-top-seen none = top-key.Nothing
-top-seen (some top) = top-key.Is top
+-- the image with the turned entry put back; as it was with a refusal before the turn
+abbrev pub put-in : Aim → Text → Act → Text → ℕ → Text
+put-in a image q text room =
+    cond (eqb (refusal a (seen a image) q text room) 0)
+    (put-slot (seen a image .at) (turn-in a image q text room .entry) image) image
+
+-- what is told, the image, and the reply buffer
+pub record Changed (q : Act) (image who text buffer : Text) (given : Report) (image-after buffer-after : Text) : Type 0 where
+  pub told : given ≡ report (turn-in (aim q image who text) image q text (length buffer) .outcome)
+  pub stored : image-after ≡ put-in (aim q image who text) image q text (length buffer)
+  pub reply : buffer-after ≡ replied (turn-in (aim q image who text) image q text (length buffer) .outcome) buffer
+
+-- ---- a top key by its bytes
+
+-- the key, and the name that goes with it; where there is no key, one of zeros and no name
+abbrev pub top-or-zero : Option Top → Top
+top-or-zero none = Single 0
+top-or-zero (some top) = top
+
+abbrev pub name-or-none : Text → Option Top → Text
+name-or-none name none = []
+name-or-none name (some top) = name
+
+unfoldable pub top-of : Text → Top
+top-of key = top-or-zero (top-in key)
+
+unfoldable pub name-with : Text → Text → Text
+name-with name key = name-or-none name (top-in key)

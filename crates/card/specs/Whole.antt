@@ -10,11 +10,11 @@ use Rattle.keying.specs.declared.Top.{Top}
 use Rattle.keying.specs.declared.Top.the-variants.{Single, Pair}
 use Rattle.partner.specs.declared.Entry.{Entry}
 use Rattle.partner.specs.Record.{entry-bytes}
-use Rattle.image.specs.Table.{Table}
+use Rattle.partner.specs.Table.{Table}
 use Rattle.image.specs.Image.{decode, encode}
 use Rattle.calls.specs.Words.{if_then_else_}
 use Rattle.calls.specs.Outcome.{Outcome, nothing, refusal, success}
-use Rattle.calls.specs.Calls.{After, load, remove, entry-of, bad-identity, run, start}
+use Rattle.calls.specs.Calls.{After, about, remove, load, entry-of, bad-identity, run, start}
 
 -- ---- ask for an entry
 
@@ -71,5 +71,5 @@ unfoldable pub remove-over : Text → ℕ → Text → Outcome
 remove-over image room id =
     elim (decode image) [
       | none ↦ refusal 13
-      | some t ↦ if ltb room largest then refusal 6 else delivering (run t (remove id))
+      | some t ↦ if ltb room largest then refusal 6 else delivering (run t (about id remove))
     ]

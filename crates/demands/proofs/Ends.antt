@@ -11,7 +11,7 @@ use Rattle.octets.specs.Text.{Text}
 use Rattle.octets.specs.Number.{number}
 use Rattle.keying.specs.declared.Top.{Top}
 use Rattle.csm.proofs.TextLaws.{some-inj, none-some}
-use Rattle.image.specs.Table.{Table}
+use Rattle.partner.specs.Table.{Table}
 use Rattle.image.specs.Image.{decode}
 use Rattle.calls.specs.Calls.{run}
 use Rattle.calls.specs.Calls as steps

@@ -15,7 +15,7 @@ use Rattle.keying.specs.declared.Top.{Top}
 use Rattle.csm.specs.Message.{Reading, esm, read}
 use Rattle.csm.proofs.TextLaws.{some-inj, none-some}
 use Rattle.partner.specs.Entry.{name-of}
-use Rattle.image.specs.Table.{Table, started}
+use Rattle.partner.specs.Table.{Table, started}
 use Rattle.image.specs.Image.{decode, encode}
 use Rattle.image.proofs.Claims as stored
 use Rattle.calls.specs.Outcome.{Outcome, nothing, refusal, success}
@@ -25,7 +25,7 @@ use Rattle.calls.specs.Claims as said
 use Rattle.calls.proofs.Tests.{by-case, if-false}
 use Rattle.calls.proofs.Claims as call
 use Rattle.card.specs.Whole.{delivering, top-in}
-use Rattle.card.proofs.Turning.{own-is}
+use Rattle.card.proofs.Tables.{own-is}
 use Rattle.line.specs.Line.{_∈_}
 use Rattle.demands.specs.Face.{Call, receive, build-ksm, build-rsi, ask, give-up, load, remove, Left, left}
 use Rattle.demands.specs.Face.{leaves, start-leaves, written}
@@ -46,18 +46,18 @@ made l t p m = subst (λ (x : steps.Call). run t x .outcome .answer ∈ l) p m
 
 step-gives : (c : Call) (room : ℕ) (t : Table) (d : steps.Call) → step-of room c ≡ some d
     → run t d .outcome .answer ∈ answers-of c
-step-gives (receive text) room t d e = made _ t (some-inj e) (run-gives t _)
-step-gives (build-ksm partner request) room t d e = made _ t (some-inj e) (run-gives t _)
-step-gives (build-rsi partner service) room t d e = made _ t (some-inj e) (run-gives t _)
-step-gives (ask partner) room t d e = made _ t (some-inj e) (run-gives t _)
-step-gives (give-up partner) room t d e = made _ t (some-inj e) (run-gives t _)
+step-gives (receive text) room t d e = made _ t (some-inj e) (run-gives t _ _ refl)
+step-gives (build-ksm partner request) room t d e = made _ t (some-inj e) (run-gives t _ _ refl)
+step-gives (build-rsi partner service) room t d e = made _ t (some-inj e) (run-gives t _ _ refl)
+step-gives (ask partner) room t d e = made _ t (some-inj e) (run-gives t _ _ refl)
+step-gives (give-up partner) room t d e = made _ t (some-inj e) (run-gives t _ _ refl)
 step-gives (load partner name key) room t d e = go (top-in key) e
   where
     go : (o : Option Top) → loading partner name o ≡ some d
         → run t d .outcome .answer ∈ answers-of (load partner name key)
     go none e = absurd (none-some _ e)
-    go (some top) e = made _ t (some-inj e) (run-gives t _)
-step-gives (remove partner) room t d e = made _ t (some-inj e) (run-gives t _)
+    go (some top) e = made _ t (some-inj e) (run-gives t _ _ refl)
+step-gives (remove partner) room t d e = made _ t (some-inj e) (run-gives t _ _ refl)
 
 answers : (image buffer : Text) (c : Call) (l : Left) → Way image buffer c l → l .answer ∈ answers-of c
 unfolding left

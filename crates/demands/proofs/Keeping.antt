@@ -18,30 +18,26 @@ use Rattle.csm.specs.Message.{Body, rsi, ksm, rsm, esm, option, Reading, read}
 use Rattle.csm.proofs.Claims as text
 use Rattle.csm.proofs.TextLaws.{some-inj, none-some}
 use Rattle.partner.specs.declared.Entry.{Entry}
+use Rattle.partner.specs.Entry.{filled}
 use Rattle.partner.specs.Record.{entry-bytes}
 use Rattle.partner.specs.Held.{Held}
 use Rattle.partner.proofs.Claims as partner
 use Rattle.partner.proofs.Holding.{held-name-of}
-use Rattle.image.specs.Table.{Table, AllHeld, legal, is-empty}
+use Rattle.partner.specs.Table.{Table, AllHeld, legal, is-empty}
 use Rattle.image.specs.Image.{decode, encode, slot-bytes, slots-bytes}
-use Rattle.image.specs.Places.{entry-there}
 use Rattle.image.proofs.Claims as stored
-use Rattle.image.proofs.Updates.{entry-at-held}
 use Rattle.calls.specs.Outcome.{Outcome}
 use Rattle.calls.specs.Calls.{entry-of, run}
 use Rattle.calls.specs.Calls as steps
 use Rattle.calls.specs.Claims.{Carries, Answers-text, Answers, Writes, Sized, subject}
 use Rattle.calls.proofs.Claims as call
-use Rattle.calls.proofs.Tables.{legal-parts, own-name}
-use Rattle.outcome.specs.Acts.{no-request}
-use Rattle.face.specs.Request.{part, whole-in, request-in}
-use Rattle.card.specs.Ways.{record-of}
+use Rattle.calls.proofs.Tables.{legal-parts, own-name, entry-held}
+use Rattle.sight.specs.Request.{no-request, part, whole-in, request-in}
 use Rattle.card.specs.Whole.{top-in}
 use Rattle.card.specs.Claims.{Of-64-bits}
 use Rattle.card.proofs.Fitting.{name-octets}
-use Rattle.card.proofs.Steps.{top-fits}
-use Rattle.card.proofs.Staying.{run-holds}
-use Rattle.card.proofs.Turning.{entry-is}
+use Rattle.card.proofs.Keys.{top-fits}
+use Rattle.card.proofs.Staying.{find-held, run-holds}
 use Rattle.demands.specs.Face.{Call, receive, build-ksm, build-rsi, ask, give-up, load, remove}
 use Rattle.demands.specs.Terms.{Bytes, Of-bytes, loading, step-of}
 
@@ -118,11 +114,8 @@ module _ (image : Text) (t : Table) (d : steps.Call) (octets : Bytes image) (is 
 -- an entry of an image fits its types
 pub entry-fits : (image : Text) (t : Table) (id : Text) (e : Entry) → Bytes image → decode image ≡ some t
     → entry-of id t ≡ some e → Held e
-entry-fits image t id e o is h = go (record-of id image) (sym (entry-is image t is id) ∙ h)
-  where
-    go : (at : Option ℕ) → entry-there image at ≡ some e → Held e
-    go none q = absurd (none-some _ q)
-    go (some at) q = subst Held (some-inj q) (entry-at-held at image o)
+entry-fits image t id e o is h =
+    find-held (filled id) (t .slots) e (stored.claims .read-is-held image t o is) (entry-held t id e h .found)
 
 -- ---- replies are short
 
@@ -142,12 +135,12 @@ answer-short us (some r) w h = go (r .body) h
 
 writes-short : (us : Text) (d : steps.Call) (w : Text) → Writes us d w → length w ≤ 512
 writes-short us (steps.receive room s) w h = answer-short us (read s) w h
-writes-short us (steps.build-ksm room id q) w h = message-short us id (ksm (h .0)) w (h .1)
-writes-short us (steps.build-rsi room id s) w h = message-short us id (rsi (record { svr = h .0; edc = none })) w (h .2)
-writes-short us (steps.give-up id) w h = omega (arith, ap length h)
+writes-short us (steps.about id (steps.build-ksm room q)) w h = message-short us id (ksm (h .0)) w (h .1)
+writes-short us (steps.about id (steps.build-rsi room s)) w h = message-short us id (rsi (record { svr = h .0; edc = none })) w (h .2)
+writes-short us (steps.about id steps.give-up) w h = omega (arith, ap length h)
+writes-short us (steps.about id steps.remove) w h = omega (arith, ap length h)
+writes-short us (steps.about id steps.ask) w h = omega (arith, ap length h)
 writes-short us (steps.load id name top) w h = omega (arith, ap length h)
-writes-short us (steps.remove id) w h = omega (arith, ap length h)
-writes-short us (steps.ask id) w h = omega (arith, ap length h)
 
 pub reply-short : (t : Table) (d : steps.Call) → length (run t d .outcome .reply) ≤ 512
 reply-short t d = go (eqb (run t d .outcome .answer) 0) refl (eqb (run t d .outcome .answer) 4) refl

@@ -13,12 +13,12 @@ use Rattle.csm.specs.Message.{Reading, read}
 use Rattle.csm.proofs.Claims as csm
 use Rattle.partner.specs.Entry.{top-of}
 use Rattle.partner.specs.Changes.{loaded}
-use Rattle.image.specs.Table.{Table}
+use Rattle.partner.specs.Table.{Table}
 use Rattle.image.proofs.Claims.{claims}
 use Rattle.calls.specs.Calls.{entry-of}
 use Rattle.calls.specs.Good.{Good-request}
 use Rattle.calls.specs.Steps.{Partners}
-use Rattle.face.specs.Request.{request-in}
+use Rattle.sight.specs.Request.{request-in}
 use Rattle.line.specs.Line.{_∈_, texts, entry-for}
 use Rattle.demands.specs.Face.{receive, build-ksm, written, kept, sent}
 use Rattle.demands.specs.Terms.{Bytes, Exchange, built, taken, confirming, Exchanged}

@@ -8,7 +8,7 @@ use Rattle.octets.specs.Text.{Text}
 use Rattle.keying.specs.declared.Top.{Top}
 use Rattle.partner.specs.declared.Entry.{Entry}
 use Rattle.partner.specs.Entry.{confirmed}
-use Rattle.image.specs.Table.{Table}
+use Rattle.partner.specs.Table.{Table}
 use Rattle.image.specs.Image.{decode}
 use Rattle.calls.specs.Calls.{run}
 use Rattle.calls.specs.Calls as steps

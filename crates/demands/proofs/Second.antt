@@ -15,7 +15,7 @@ use Rattle.partner.specs.declared.Entry.{Entry}
 use Rattle.partner.specs.Entry.{name-of}
 use Rattle.partner.specs.Record.{entry-in}
 use Rattle.partner.proofs.Claims.{claims}
-use Rattle.image.specs.Table.{Table, legal, started}
+use Rattle.partner.specs.Table.{Table, legal, started}
 use Rattle.image.specs.Image.{decode}
 use Rattle.image.proofs.Claims as stored
 use Rattle.calls.specs.declared.Request.{Request}
@@ -32,10 +32,10 @@ use Rattle.calls.proofs.Steps.{steps as each-step}
 use Rattle.calls.proofs.Refusals.{refusals}
 use Rattle.calls.proofs.Numbers.{numbers}
 use Rattle.outcome.specs.Report.{report}
-use Rattle.face.specs.Report.{front-bytes, report-bytes}
-use Rattle.face.specs.Request.{request-in}
+use Rattle.host.specs.Report.{report-bytes}
+use Rattle.sight.specs.Request.{request-in}
 use Rattle.card.specs.Whole.{largest}
-use Rattle.card.proofs.Turning.{own-is}
+use Rattle.card.proofs.Tables.{own-is}
 use Rattle.demands.specs.Face.{Call, receive, build-ksm, ask, Left, left, leaves, start-leaves, written, kept}
 use Rattle.demands.specs.Terms.{Bytes, Of-bytes, our-identity, in-table, entry-stored, entry-told, refused}
 use Rattle.demands.specs.Terms.{room-for, step-of}
@@ -84,7 +84,7 @@ module _ (image buffer partner : Text) (octets : Bytes image) where
   shown : (t : Table) (e : Entry) → decode image ≡ some t → entry-of partner t ≡ some e → 256 ≤ length buffer
       → (leaves image buffer (ask partner) .answer ≡ 0) × (entry-told image buffer partner ≡ e)
   shown t e is there r =
-      let a = as-the-steps image buffer t octets is (ask partner) (steps.ask partner) tt r refl in
+      let a = as-the-steps image buffer t octets is (ask partner) (steps.about partner steps.ask) tt r refl in
       let s = refusals .asked-is-found t partner e (stored.claims .read-then-write image t is .0) there in (
         a .answer ∙ ap (λ (x : After). x .outcome .answer) s,
         ap entry-in (a .reply ∙ ap (λ (o : Outcome). o .reply) (shown-entry t partner e (stored.claims .read-then-write image t is .0) there))
@@ -106,7 +106,7 @@ module _ (image buffer partner : Text) (octets : Bytes image) where
       by-entry : (t : Table) → decode image ≡ some t → 256 ≤ length buffer → (o : Option Entry) → entry-of partner t ≡ o
           → entry-stored image partner ≡ some (entry-told image buffer partner)
       by-entry t is r none h =
-          let a = as-the-steps image buffer t octets is (ask partner) (steps.ask partner) tt r refl in
+          let a = as-the-steps image buffer t octets is (ask partner) (steps.about partner steps.ask) tt r refl in
           let s = refusals .nobody-to-show t partner (stored.claims .read-then-write image t is .0) h in
           absurd (eqb-false 3 0 refl (sym (a .answer ∙ ap (λ (x : After). x .outcome .answer) s) ∙ z))
       by-entry t is r (some e) h =
@@ -152,7 +152,7 @@ receive-anywhere t room other r o text =
 
 -- what a report tells of an outcome
 told-so : (o : Outcome) → drop 4 (report-bytes (report o)) ≡ tells (o .told)
-unfolding report report-bytes front-bytes
+unfolding report report-bytes
 told-so o = refl
 
 module _ (x : Exchange) (t u : Table) (e f : Entry) (a-bytes : Bytes (x .a)) (b-bytes : Bytes (x .b))
@@ -175,8 +175,8 @@ module _ (x : Exchange) (t u : Table) (e f : Entry) (a-bytes : Bytes (x .a)) (b-
 
   first-steps : As-the-steps (x .a) (x .first) building (step.after-built t u q room) (built x)
   first-steps =
-      subst (λ (p : Text). As-the-steps (x .a) (x .first) building (run t (steps.build-ksm room p q)) (built x)) named
-      (as-the-steps (x .a) (x .first) t a-bytes a-is building (steps.build-ksm room (x .partner) q) request-bytes
+      subst (λ (p : Text). As-the-steps (x .a) (x .first) building (run t (steps.about p (steps.build-ksm room q))) (built x)) named
+      (as-the-steps (x .a) (x .first) t a-bytes a-is building (steps.about (x .partner) (steps.build-ksm room q)) request-bytes
       first refl)
 
   image-built : decode (built x .image) ≡ some (step.after-built t u q room .table)
@@ -186,7 +186,7 @@ module _ (x : Exchange) (t u : Table) (e f : Entry) (a-bytes : Bytes (x .a)) (b-
   bytes-built : Bytes (built x .image)
   unfolding kept
   bytes-built =
-      bytes-kept (x .a) (x .first) t a-bytes a-is building (steps.build-ksm room (x .partner) q) request-bytes
+      bytes-kept (x .a) (x .first) t a-bytes a-is building (steps.about (x .partner) (steps.build-ksm room q)) request-bytes
       first refl
 
   -- B receives

@@ -9,7 +9,7 @@ use lib.ListN.{length}
 use Rattle.octets.specs.Text.{Text, is-name}
 use Rattle.partner.specs.Entry.{name-of}
 use Rattle.partner.proofs.Naming.{filled-filled}
-use Rattle.image.specs.Table.{AllHeld, empties, started}
+use Rattle.partner.specs.Table.{AllHeld, empties, started}
 use Rattle.image.specs.Image.{decode, encode}
 use Rattle.image.proofs.Claims.{claims}
 use Rattle.image.proofs.Entries.{empty-held}

@@ -16,7 +16,7 @@ use Rattle.csm.proofs.TextLaws.{some-inj}
 use Rattle.partner.specs.declared.Entry.{Entry}
 use Rattle.partner.specs.Entry.{filled}
 use Rattle.partner.proofs.Claims as partner
-use Rattle.image.specs.Table.{Table, legal, put, holding}
+use Rattle.partner.specs.Table.{Table, legal, put, holding}
 use Rattle.image.specs.Image.{decode, encode}
 use Rattle.image.proofs.Claims as stored
 use Rattle.calls.specs.Words.{if_then_else_}
@@ -29,7 +29,7 @@ use Rattle.calls.proofs.Tests.{by-case, if-false}
 use Rattle.calls.proofs.Slots.{put-found}
 use Rattle.calls.proofs.Tables.{entry-held}
 use Rattle.calls.proofs.Claims as call
-use Rattle.face.specs.Request.{request-in}
+use Rattle.sight.specs.Request.{request-in}
 use Rattle.card.specs.Whole.{delivering}
 use Rattle.card.specs.Claims.{Of-64-bits}
 use Rattle.card.proofs.Staying.{run-long}
@@ -87,7 +87,7 @@ service-same own e contents = go (value svr contents)
     go none = refl
     go (some s) = refl
 
-rsi-leaves : (t : Table) (room : ℕ) (id contents : Text) → run t (steps.build-rsi room id contents) .table ≡ t
+rsi-leaves : (t : Table) (room : ℕ) (id contents : Text) → run t (steps.about id (steps.build-rsi room contents)) .table ≡ t
 unfolding run perform
 rsi-leaves t room id contents =
     by-case (λ (a : After). a .table ≡ t) _ _ _
@@ -95,10 +95,11 @@ rsi-leaves t room id contents =
     (λ _. partner-leaves t id _ (λ e. service-same (bare (t .own)) e contents)))
     (λ _. refl)
 
-ask-leaves : (t : Table) (id : Text) → run t (steps.ask id) .table ≡ t
+ask-leaves : (t : Table) (id : Text) → run t (steps.about id steps.ask) .table ≡ t
 unfolding run perform
 ask-leaves t id =
-    by-case (λ (a : After). a .table ≡ t) _ _ _ (λ _. partner-leaves t id told (λ e. refl)) (λ _. refl)
+    by-case (λ (a : After). a .table ≡ t) _ _ _
+    (λ _. by-case (λ (a : After). a .table ≡ t) _ _ _ (λ _. refl) (λ _. partner-leaves t id told (λ e. refl))) (λ _. refl)
 
 -- ---- what is kept
 
@@ -138,10 +139,10 @@ module _ (image buffer : Text) (t : Table) (octets : Bytes image) (is : decode i
         ∙ still d (call.claims .unless-done-nothing-changes t d (eqb-false (run t d .outcome .answer) 0 h)))
 
   -- ask writes a record
-  shown-short : (id : Text) → length (showing id (run t (steps.ask id)) .reply) < 65_536
+  shown-short : (id : Text) → length (showing id (run t (steps.about id steps.ask)) .reply) < 65_536
   shown-short id = go (entry-of id t) refl
     where
-      go : (o : Option Entry) → entry-of id t ≡ o → length (showing id (run t (steps.ask id)) .reply) < 65_536
+      go : (o : Option Entry) → entry-of id t ≡ o → length (showing id (run t (steps.about id steps.ask)) .reply) < 65_536
       go none q =
           omega (arith, ap (λ (o : Outcome). length (o .reply)) (shown-nobody t id lawful q))
       go (some e) q =
@@ -187,13 +188,13 @@ module _ (image buffer : Text) (t : Table) (octets : Bytes image) (is : decode i
       (run-long image t is octets (steps.receive (length buffer) text) tt tt)
   image-long (build-ksm partner request) d o e =
       subst (λ (x : steps.Call). length (encode (run t x .table)) ≡ length image) (some-inj e)
-      (run-long image t is octets (steps.build-ksm (length buffer) partner (request-in request))
+      (run-long image t is octets (steps.about partner (steps.build-ksm (length buffer) (request-in request)))
       (request-sized request o) tt)
   image-long (build-rsi partner service) d o e = refl
   image-long (ask partner) d o e = refl
   image-long (give-up partner) d o e =
       subst (λ (x : steps.Call). length (encode (run t x .table)) ≡ length image) (some-inj e)
-      (run-long image t is octets (steps.give-up partner) tt tt)
+      (run-long image t is octets (steps.about partner steps.give-up) tt tt)
   image-long (load partner name key) d o e = refl
   image-long (remove partner) d o e = refl
 

@@ -8,33 +8,32 @@ use Rattle.octets.specs.Text.{Text}
 use Rattle.octets.specs.Number.{bytes, copies}
 use Rattle.octets.proofs.Numbers.{number-bytes-below}
 use Rattle.calls.specs.Outcome.{Outcome, Told, nothing, refusal}
-use Rattle.outcome.specs.Report.{report, replied, telling, date-told}
-use Rattle.face.specs.Report.{front-bytes, class-bytes, handed-bytes, date-bytes, told-bytes, report-bytes}
+use Rattle.outcome.specs.Report.{report, replied}
+use Rattle.host.specs.Report.{report-bytes}
 use Rattle.demands.specs.Face.{left, length-told, written}
 use Rattle.demands.specs.Terms.{refused}
 
 -- a refusal
 pub left-refusal : (n : ℕ) (image buffer : Text) → left (refusal n) image buffer ≡ refused n image buffer
-unfolding left replied report report-bytes front-bytes told-bytes class-bytes handed-bytes date-bytes
+unfolding left replied report report-bytes
 left-refusal n image buffer = refl
 
 -- an error: its letters and its length
 pub error-report : (o : Outcome) → o .told ≡ nothing
     → report-bytes (report o) ≡ bytes 2 (o .letters) ++ (bytes 2 (length (o .reply)) ++ copies 28 0)
-unfolding report report-bytes front-bytes told-bytes class-bytes handed-bytes date-bytes
+unfolding report report-bytes
 error-report o h =
-    ap (λ (t : Told). report-bytes (record {
+    ap (λ (t : Told). report-bytes (report (record {
       answer = o .answer;
       letters = o .letters;
-      length = length (o .reply);
-      telling = telling t;
-      date = date-told t;
-    })) h
+      reply = o .reply;
+      told = t;
+    }))) h
 
 -- a reply of less than 65,536 bytes is what was written, and behind it the buffer is as it was
 module _ (o : Outcome) (image buffer : Text) (short : length (o .reply) < 65_536) where
   pub told-length : length-told (left o image buffer .report) ≡ length (o .reply)
-  unfolding left length-told report report-bytes front-bytes
+  unfolding left length-told report report-bytes
   told-length = number-bytes-below 2 (length (o .reply)) short
 
   pub written-reply : written (left o image buffer) ≡ o .reply

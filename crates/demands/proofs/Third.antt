@@ -6,11 +6,11 @@ use Rattle.octets.specs.Part.{bare}
 use Rattle.keying.specs.declared.Top.{Top}
 use Rattle.csm.proofs.TextLaws.{some-inj}
 use Rattle.partner.specs.Entry.{name-of}
-use Rattle.image.specs.Table.{started}
+use Rattle.partner.specs.Table.{started}
 use Rattle.calls.specs.Calls.{run}
 use Rattle.calls.specs.Calls as steps
 use Rattle.card.specs.Whole.{top-in}
-use Rattle.card.proofs.Turning.{own-is}
+use Rattle.card.proofs.Tables.{own-is}
 use Rattle.line.specs.Line as line
 use Rattle.line.proofs.Theorem.{claims}
 use Rattle.demands.specs.Face.{load, Left, left, leaves, start-leaves, written, kept}

@@ -15,7 +15,7 @@ use Rattle.csm.proofs.TextLaws.{some-inj, none-some}
 use Rattle.partner.specs.declared.Entry.{Entry}
 use Rattle.partner.specs.Entry.{name-of}
 use Rattle.partner.specs.Record.{entry-bytes}
-use Rattle.image.specs.Table.{Table, legal, started}
+use Rattle.partner.specs.Table.{Table, legal, started}
 use Rattle.image.specs.Image.{decode, encode}
 use Rattle.image.proofs.Claims as stored
 use Rattle.calls.specs.Words.{if_then_else_}
@@ -25,7 +25,7 @@ use Rattle.calls.specs.Calls as steps
 use Rattle.calls.specs.Good.{Good-identity}
 use Rattle.calls.proofs.Tests.{if-true, if-false}
 use Rattle.calls.proofs.Refusals.{refusals}
-use Rattle.face.specs.Request.{request-in}
+use Rattle.sight.specs.Request.{request-in}
 use Rattle.card.specs.Over.{outcome-over, image-over}
 use Rattle.card.specs.Whole.{body-of, ask-over, largest, start-over, delivering, top-in, load-with, load-over, remove-over}
 use Rattle.line.specs.Line.{_∈_}
@@ -52,23 +52,23 @@ stepped image buffer c a = left (in-bytes c a) (image-by c image a) buffer
 
 -- 3 where there is nobody, else the record of the entry
 pub shown-nobody : (t : Table) (partner : Text) → legal t ≡ true → steps.entry-of partner t ≡ none
-    → showing partner (run t (steps.ask partner)) ≡ refusal 3
+    → showing partner (run t (steps.about partner steps.ask)) ≡ refusal 3
 unfolding showing if_then_else_
 shown-nobody t partner lawful q = ap (showing partner) (refusals .nobody-to-show t partner lawful q)
 
 pub shown-entry : (t : Table) (partner : Text) (e : Entry) → legal t ≡ true → steps.entry-of partner t ≡ some e
-    → showing partner (run t (steps.ask partner)) ≡ success (entry-bytes e) nothing
+    → showing partner (run t (steps.about partner steps.ask)) ≡ success (entry-bytes e) nothing
 unfolding showing if_then_else_
 shown-entry t partner e lawful q =
     ap (showing partner) (refusals .asked-is-found t partner e lawful q)
     ∙ ap (λ (o : Option Entry). success (record-of o) nothing) q
 
 shown-so : (t : Table) (partner : Text) → legal t ≡ true
-    → body-of (steps.entry-of partner t) ≡ showing partner (run t (steps.ask partner))
+    → body-of (steps.entry-of partner t) ≡ showing partner (run t (steps.about partner steps.ask))
 shown-so t partner lawful = go (steps.entry-of partner t) refl
   where
     go : (o : Option Entry) → steps.entry-of partner t ≡ o
-        → body-of (steps.entry-of partner t) ≡ showing partner (run t (steps.ask partner))
+        → body-of (steps.entry-of partner t) ≡ showing partner (run t (steps.about partner steps.ask))
     go none q = ap body-of q ∙ sym (shown-nobody t partner lawful q)
     go (some e) q = ap body-of q ∙ sym (shown-entry t partner e lawful q)
 

@@ -14,7 +14,7 @@ use Rattle.csm.specs.Claims as csm
 use Rattle.partner.specs.declared.Entry.{Entry}
 use Rattle.partner.specs.Entry.{confirmed}
 use Rattle.partner.specs.Claims as partner
-use Rattle.image.specs.Table.{Table}
+use Rattle.partner.specs.Table.{Table}
 use Rattle.image.specs.Image.{decode}
 use Rattle.image.specs.Claims as image
 use Rattle.calls.specs.Calls.{run}
@@ -24,7 +24,7 @@ use Rattle.calls.specs.Claims as calls
 use Rattle.calls.specs.Steps as step
 use Rattle.calls.specs.Refusals as refusing
 use Rattle.calls.specs.Numbers as numbers
-use Rattle.face.specs.Request.{request-in}
+use Rattle.sight.specs.Request.{request-in}
 use Rattle.card.specs.Whole.{largest, top-in}
 use Rattle.line.specs.Line.{_∈_, Rising}
 use Rattle.line.specs.Line as line

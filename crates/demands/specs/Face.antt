@@ -10,8 +10,8 @@ use Rattle.calls.specs.Words.{if_then_else_}
 use Rattle.calls.specs.Outcome.{Outcome}
 use Rattle.calls.specs.Calls as steps
 use Rattle.outcome.specs.Report.{report, replied}
-use Rattle.face.specs.Report.{report-bytes}
-use Rattle.face.specs.Request.{request-in}
+use Rattle.host.specs.Report.{report-bytes}
+use Rattle.sight.specs.Request.{request-in}
 use Rattle.card.specs.Over.{outcome-over, image-over}
 use Rattle.card.specs.Whole.{ask-over, start-over, load-over, remove-over}
 use Rattle.line.specs.Line.{texts}
@@ -50,11 +50,11 @@ over image buffer c = left (outcome-over image c) (image-over image c) buffer
 unfoldable pub leaves : Text → Text → Call → Left
 leaves image buffer (receive text) = over image buffer (steps.receive (length buffer) text)
 leaves image buffer (build-ksm partner request) =
-    over image buffer (steps.build-ksm (length buffer) partner (request-in request))
+    over image buffer (steps.about partner (steps.build-ksm (length buffer) (request-in request)))
 leaves image buffer (build-rsi partner service) =
-    left (outcome-over image (steps.build-rsi (length buffer) partner service)) image buffer
+    left (outcome-over image (steps.about partner (steps.build-rsi (length buffer) service))) image buffer
 leaves image buffer (ask partner) = left (ask-over image (length buffer) partner) image buffer
-leaves image buffer (give-up partner) = over image buffer (steps.give-up partner)
+leaves image buffer (give-up partner) = over image buffer (steps.about partner steps.give-up)
 leaves image buffer (load partner name key) = left (load-over image (length buffer) partner name key) image buffer
 leaves image buffer (remove partner) = left (remove-over image (length buffer) partner) image buffer
 

@@ -10,7 +10,7 @@ use Rattle.keying.specs.declared.Top.{Top}
 use Rattle.csm.specs.Message.{Reading, Ksm, ksm, read}
 use Rattle.partner.specs.declared.Entry.{Entry}
 use Rattle.partner.specs.Entry.{confirmed}
-use Rattle.image.specs.Table.{Table}
+use Rattle.partner.specs.Table.{Table}
 use Rattle.image.specs.Image.{decode}
 use Rattle.calls.specs.declared.Request.{Request}
 use Rattle.calls.specs.Words.{if_then_else_}

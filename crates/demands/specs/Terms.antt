@@ -15,7 +15,7 @@ use Rattle.csm.specs.Message.{Reading, Esm, esm, read}
 use Rattle.partner.specs.declared.Entry.{Entry}
 use Rattle.partner.specs.Entry.{confirmed}
 use Rattle.partner.specs.Record.{entry-in, entry-bytes}
-use Rattle.image.specs.Table.{Table}
+use Rattle.partner.specs.Table.{Table}
 use Rattle.image.specs.Image.{decode}
 use Rattle.calls.specs.Words.{if_then_else_}
 use Rattle.calls.specs.Outcome.{Outcome, Told, nothing, keys, success}
@@ -23,9 +23,9 @@ use Rattle.calls.specs.Calls.{After, entry-of}
 use Rattle.calls.specs.Calls as steps
 use Rattle.calls.specs.Results.{Keeps}
 use Rattle.calls.specs.Steps.{iv-asked, date-asked}
-use Rattle.outcome.specs.Report.{telling, date-told, report, replied}
-use Rattle.face.specs.Report.{told-bytes, report-bytes}
-use Rattle.face.specs.Request.{request-in}
+use Rattle.outcome.specs.Report.{report, replied}
+use Rattle.host.specs.Report.{report-bytes}
+use Rattle.sight.specs.Request.{request-in}
 use Rattle.card.specs.Whole.{largest, delivering, top-in}
 use Rattle.demands.specs.Face.{Call, receive, build-ksm, build-rsi, ask, give-up, load, remove, Left, leaves}
 use Rattle.demands.specs.Face.{written, kept}
@@ -109,12 +109,12 @@ loading partner name (some top) = some (steps.load partner name top)
 
 abbrev pub step-of : ℕ → Call → Option steps.Call
 step-of room (receive text) = some (steps.receive room text)
-step-of room (build-ksm partner request) = some (steps.build-ksm room partner (request-in request))
-step-of room (build-rsi partner service) = some (steps.build-rsi room partner service)
-step-of room (ask partner) = some (steps.ask partner)
-step-of room (give-up partner) = some (steps.give-up partner)
+step-of room (build-ksm partner request) = some (steps.about partner (steps.build-ksm room (request-in request)))
+step-of room (build-rsi partner service) = some (steps.about partner (steps.build-rsi room service))
+step-of room (ask partner) = some (steps.about partner steps.ask)
+step-of room (give-up partner) = some (steps.about partner steps.give-up)
 step-of room (load partner name key) = loading partner name (top-in key)
-step-of room (remove partner) = some (steps.remove partner)
+step-of room (remove partner) = some (steps.about partner steps.remove)
 
 -- the record of an entry that is asked for
 abbrev pub record-of : Option Entry → Text
@@ -148,7 +148,7 @@ pub record As-the-steps (image buffer : Text) (c : Call) (a : After) (l : Left) 
 
 -- class, service, IV and date, as a report has them behind letters and length
 abbrev pub tells : Told → Text
-tells t = told-bytes (telling t) (date-told t)
+tells t = drop 4 (report-bytes (report (success [] t)))
 
 -- ---- a whole exchange
 

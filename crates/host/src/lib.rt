@@ -5,19 +5,21 @@ ghost use lib.ListN.{length};
 ghost use Rattle.dea.specs.Dea as dea;
 ghost use Rattle.keying.specs.Mac as mac;
 ghost use Rattle.calls.specs.Calls as calls;
-ghost use Rattle.outcome.specs.Report as outcomes;
-ghost use Rattle.face.specs.Report as reports;
-ghost use Rattle.face.specs.Request as requests;
 ghost use Rattle.card.specs.Over as over;
 ghost use Rattle.card.specs.Whole as whole;
+ghost use Rattle.host.specs.Report as reports;
+ghost use Rattle.sight.specs.Request as requests;
+ghost use Rattle.host.specs.Contracts as contracts;
 use outcome::Report;
+
+mod report;
 
 // What a call gives, in the report; its answer.
 fn told(report: &mut [u8; 32], r: Report) -> u32
     ensures { λ n. ⌜ n ≡ r .answer ⌝ }
     ensures { λ n. ⌜ now (report .exit) ≡ reports.report-bytes r ⌝ }
 {
-    face::put_report(report, r);
+    report::put_report(report, r);
     r.answer
 }
 
@@ -29,10 +31,9 @@ pub extern "C" fn khl_receive(
     reply: &mut [u8],
     report: &mut [u8; 32],
 ) -> u32
-    ensures { λ r. ⌜ r ≡ (over.outcome-over (now (image .entry)) (calls.receive (length (now (reply .entry))) (now (text .entry)))) .answer ⌝ }
-    ensures { λ r. ⌜ now (image .exit) ≡ over.image-over (now (image .entry)) (calls.receive (length (now (reply .entry))) (now (text .entry))) ⌝ }
-    ensures { λ r. ⌜ now (reply .exit) ≡ outcomes.replied (over.outcome-over (now (image .entry)) (calls.receive (length (now (reply .entry))) (now (text .entry)))) (now (reply .entry)) ⌝ }
-    ensures { λ r. ⌜ now (report .exit) ≡ reports.report-bytes (outcomes.report (over.outcome-over (now (image .entry)) (calls.receive (length (now (reply .entry))) (now (text .entry))))) ⌝ }
+    ensures { λ r. ⌜ contracts.Changes-and-writes (now (image .entry))
+        (calls.receive (length (now (reply .entry))) (now (text .entry)))
+        (now (reply .entry)) r (now (image .exit)) (now (reply .exit)) (now (report .exit)) ⌝ }
 {
     told(report, card::receive(image, text, reply))
 }
@@ -46,15 +47,12 @@ pub extern "C" fn khl_build_ksm(
     reply: &mut [u8],
     report: &mut [u8; 32],
 ) -> u32
-    ensures { λ r. ⌜ r ≡ (over.outcome-over (now (image .entry)) (calls.build-ksm (length (now (reply .entry))) (now (partner .entry)) (requests.request-in (now (request .entry))))) .answer ⌝ }
-    ensures { λ r. ⌜ now (image .exit) ≡ over.image-over (now (image .entry)) (calls.build-ksm (length (now (reply .entry))) (now (partner .entry)) (requests.request-in (now (request .entry)))) ⌝ }
-    ensures { λ r. ⌜ now (reply .exit) ≡ outcomes.replied (over.outcome-over (now (image .entry)) (calls.build-ksm (length (now (reply .entry))) (now (partner .entry)) (requests.request-in (now (request .entry))))) (now (reply .entry)) ⌝ }
-    ensures { λ r. ⌜ now (report .exit) ≡ reports.report-bytes (outcomes.report (over.outcome-over (now (image .entry)) (calls.build-ksm (length (now (reply .entry))) (now (partner .entry)) (requests.request-in (now (request .entry)))))) ⌝ }
+    ensures { λ r. ⌜ contracts.Changes-and-writes (now (image .entry))
+        (calls.about (now (partner .entry))
+        (calls.build-ksm (length (now (reply .entry))) (requests.request-in (now (request .entry)))))
+        (now (reply .entry)) r (now (image .exit)) (now (reply .exit)) (now (report .exit)) ⌝ }
 {
-    told(
-        report,
-        card::build_ksm(image, partner, face::request_in(request), reply),
-    )
+    told(report, card::build_ksm(image, partner, request, reply))
 }
 
 // Build an RSI: 13, 6, 3, 12.
@@ -66,9 +64,9 @@ pub extern "C" fn khl_build_rsi(
     reply: &mut [u8],
     report: &mut [u8; 32],
 ) -> u32
-    ensures { λ r. ⌜ r ≡ (over.outcome-over (now (image .entry)) (calls.build-rsi (length (now (reply .entry))) (now (partner .entry)) (now (service .entry)))) .answer ⌝ }
-    ensures { λ r. ⌜ now (reply .exit) ≡ outcomes.replied (over.outcome-over (now (image .entry)) (calls.build-rsi (length (now (reply .entry))) (now (partner .entry)) (now (service .entry)))) (now (reply .entry)) ⌝ }
-    ensures { λ r. ⌜ now (report .exit) ≡ reports.report-bytes (outcomes.report (over.outcome-over (now (image .entry)) (calls.build-rsi (length (now (reply .entry))) (now (partner .entry)) (now (service .entry))))) ⌝ }
+    ensures { λ r. ⌜ contracts.Writes (over.outcome-over (now (image .entry))
+        (calls.about (now (partner .entry)) (calls.build-rsi (length (now (reply .entry))) (now (service .entry)))))
+        (now (reply .entry)) r (now (reply .exit)) (now (report .exit)) ⌝ }
 {
     told(report, card::build_rsi(image, partner, service, reply))
 }
@@ -81,9 +79,9 @@ pub extern "C" fn khl_ask(
     reply: &mut [u8],
     report: &mut [u8; 32],
 ) -> u32
-    ensures { λ r. ⌜ r ≡ (whole.ask-over (now (image .entry)) (length (now (reply .entry))) (now (partner .entry))) .answer ⌝ }
-    ensures { λ r. ⌜ now (reply .exit) ≡ outcomes.replied (whole.ask-over (now (image .entry)) (length (now (reply .entry))) (now (partner .entry))) (now (reply .entry)) ⌝ }
-    ensures { λ r. ⌜ now (report .exit) ≡ reports.report-bytes (outcomes.report (whole.ask-over (now (image .entry)) (length (now (reply .entry))) (now (partner .entry)))) ⌝ }
+    ensures { λ r. ⌜ contracts.Writes
+        (whole.ask-over (now (image .entry)) (length (now (reply .entry))) (now (partner .entry)))
+        (now (reply .entry)) r (now (reply .exit)) (now (report .exit)) ⌝ }
 {
     told(report, card::ask(image, partner, reply))
 }
@@ -91,9 +89,8 @@ pub extern "C" fn khl_ask(
 // Give up: 13, 3, 5.
 #[no_mangle]
 pub extern "C" fn khl_give_up(image: &mut [u8], partner: &[u8], report: &mut [u8; 32]) -> u32
-    ensures { λ r. ⌜ r ≡ (over.outcome-over (now (image .entry)) (calls.give-up (now (partner .entry)))) .answer ⌝ }
-    ensures { λ r. ⌜ now (image .exit) ≡ over.image-over (now (image .entry)) (calls.give-up (now (partner .entry))) ⌝ }
-    ensures { λ r. ⌜ now (report .exit) ≡ reports.report-bytes (outcomes.report (over.outcome-over (now (image .entry)) (calls.give-up (now (partner .entry))))) ⌝ }
+    ensures { λ r. ⌜ contracts.Changes (now (image .entry)) (calls.about (now (partner .entry)) calls.give-up)
+        r (now (image .exit)) (now (report .exit)) ⌝ }
 {
     told(report, card::give_up(image, partner))
 }
@@ -101,9 +98,9 @@ pub extern "C" fn khl_give_up(image: &mut [u8], partner: &[u8], report: &mut [u8
 // Start: 6, 10.
 #[no_mangle]
 pub extern "C" fn khl_start(own: &[u8], out: &mut [u8], report: &mut [u8; 32]) -> u32
-    ensures { λ r. ⌜ r ≡ (whole.start-over (now (own .entry)) (length (now (out .entry)))) .answer ⌝ }
-    ensures { λ r. ⌜ now (out .exit) ≡ outcomes.replied (whole.start-over (now (own .entry)) (length (now (out .entry)))) (now (out .entry)) ⌝ }
-    ensures { λ r. ⌜ now (report .exit) ≡ reports.report-bytes (outcomes.report (whole.start-over (now (own .entry)) (length (now (out .entry))))) ⌝ }
+    ensures { λ r. ⌜ contracts.Writes
+        (whole.start-over (now (own .entry)) (length (now (out .entry))))
+        (now (out .entry)) r (now (out .exit)) (now (report .exit)) ⌝ }
 {
     told(report, card::start(own, out))
 }
@@ -118,9 +115,10 @@ pub extern "C" fn khl_load(
     out: &mut [u8],
     report: &mut [u8; 32],
 ) -> u32
-    ensures { λ r. ⌜ r ≡ (whole.load-over (now (image .entry)) (length (now (out .entry))) (now (partner .entry)) (now (name .entry)) (now (key .entry))) .answer ⌝ }
-    ensures { λ r. ⌜ now (out .exit) ≡ outcomes.replied (whole.load-over (now (image .entry)) (length (now (out .entry))) (now (partner .entry)) (now (name .entry)) (now (key .entry))) (now (out .entry)) ⌝ }
-    ensures { λ r. ⌜ now (report .exit) ≡ reports.report-bytes (outcomes.report (whole.load-over (now (image .entry)) (length (now (out .entry))) (now (partner .entry)) (now (name .entry)) (now (key .entry)))) ⌝ }
+    ensures { λ r. ⌜ contracts.Writes
+        (whole.load-over (now (image .entry)) (length (now (out .entry))) (now (partner .entry)) (now (name .entry))
+        (now (key .entry)))
+        (now (out .entry)) r (now (out .exit)) (now (report .exit)) ⌝ }
 {
     told(report, card::load(image, partner, name, key, out))
 }
@@ -133,9 +131,9 @@ pub extern "C" fn khl_remove(
     out: &mut [u8],
     report: &mut [u8; 32],
 ) -> u32
-    ensures { λ r. ⌜ r ≡ (whole.remove-over (now (image .entry)) (length (now (out .entry))) (now (partner .entry))) .answer ⌝ }
-    ensures { λ r. ⌜ now (out .exit) ≡ outcomes.replied (whole.remove-over (now (image .entry)) (length (now (out .entry))) (now (partner .entry))) (now (out .entry)) ⌝ }
-    ensures { λ r. ⌜ now (report .exit) ≡ reports.report-bytes (outcomes.report (whole.remove-over (now (image .entry)) (length (now (out .entry))) (now (partner .entry)))) ⌝ }
+    ensures { λ r. ⌜ contracts.Writes
+        (whole.remove-over (now (image .entry)) (length (now (out .entry))) (now (partner .entry)))
+        (now (out .entry)) r (now (out .exit)) (now (report .exit)) ⌝ }
 {
     told(report, card::remove(image, partner, out))
 }

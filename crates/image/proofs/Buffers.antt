@@ -15,10 +15,11 @@ use Rattle.octets.specs.Wrote.{Wrote}
 use Rattle.partner.specs.declared.Name.{Name}
 use Rattle.partner.specs.declared.Entry.{Entry}
 use Rattle.partner.specs.Record.{entry-bytes, put-entry}
-use Rattle.image.specs.Table.{started, empties}
+use Rattle.partner.specs.Table.{started, empties}
 use Rattle.image.specs.Image.{slots-bytes, encode}
-use Rattle.image.specs.Places.{splice, with-entry, with-partner, without-partner}
-use Rattle.image.specs.Results.{put-back, added, removed, delivered, size-delivered}
+use Rattle.image.specs.Places.{slot-place, splice, with-entry, with-partner, without-partner}
+use Rattle.image.specs.Results.{put-back, added, removed, put-slot, added-slot, removed-slot}
+use Rattle.image.specs.Results.{delivered, size-delivered}
 use Rattle.image.proofs.Slots.{vacant-bytes}
 use Rattle.image.proofs.Updates.{splice-size}
 
@@ -68,6 +69,34 @@ pub removed-within : (at : ℕ) (image : Text) → at + 157 ≤ length image
     → removed at image ≡ some (without-partner at image)
 unfolding removed
 removed-within at image h = rw (le-leb (at + 157) (length image) h)
+
+-- of one of the 64 slots
+module _ (k : ℕ) (image : Text) (h : k < 64) where
+  pub put-slot-within : (e : Entry) → put-slot k e image ≡ put-back (slot-place k image) e image
+  unfolding put-slot
+  put-slot-within e = rw (lt-ltb k 64 h)
+
+  pub added-slot-within : (e : Entry) → added-slot k e image ≡ added (slot-place k image) e image
+  unfolding added-slot
+  added-slot-within e = rw (lt-ltb k 64 h)
+
+  pub removed-slot-within : removed-slot k image ≡ removed (slot-place k image) image
+  unfolding removed-slot
+  removed-slot-within = rw (lt-ltb k 64 h)
+
+-- and past them
+module _ (k : ℕ) (image : Text) (h : 64 ≤ k) where
+  pub put-slot-past : (e : Entry) → image ≡ put-slot k e image
+  unfolding put-slot
+  put-slot-past e = rw (le-ltb k 64 h)
+
+  pub added-slot-past : (e : Entry) (out : Text) → Given (added-slot k e image) out out 0
+  unfolding added-slot
+  added-slot-past e out = rw (le-ltb k 64 h) (given-none out)
+
+  pub removed-slot-past : (out : Text) → Given (removed-slot k image) out out 0
+  unfolding removed-slot
+  removed-slot-past out = rw (le-ltb k 64 h) (given-none out)
 
 -- ---- a partner added, a partner taken out
 

@@ -1,164 +1,143 @@
--- What changing a record at its place gives: the bytes of the row with that slot changed.
-use mathlib.Core.Path.{_≡_, refl, sym, ap, _∙_, subst}
-use mathlib.Core.Bool.{Bool, true, false, cond, not}
-use mathlib.Core.List.{List, [], _∷_, _++_}
-use Prim.Native.Nat.{ℕ, suc, _+_, _≤_}
+-- A row with one slot changed: its bytes, that it is stored, and the identities in it.
+use mathlib.Core.Path.{_≡_, refl, sym, ap, _∙_}
+use mathlib.Core.Bool.{Bool, true, false, cond, not, _&&_, _||_}
+use mathlib.Core.List.{List, [], _∷_, _++_, append-assoc}
+use mathlib.Core.Logic.{_⊎_, inl, inr}
+use Prim.Native.Nat.{ℕ, zero, suc, _+_, _<_}
 use native.Mathlib.Omega.{arith}
-use lib.ListN.{length, getD, length-append}
-use lib.Seq.{drop-at}
+use lib.ListN.{length, take, drop, getD, set}
+use lib.Seq.{take-at, drop-at, drop-append-add, set-getD}
+use borrow.Author.Tests.{not-true}
 use Rattle.octets.specs.Text.{Text, same}
-use Rattle.octets.specs.Number.{copies}
-use Rattle.octets.proofs.Comparing.{both, same-equal}
+use Rattle.octets.proofs.Comparing.{both, same-differs, differs-same}
 use Rattle.partner.specs.declared.Entry.{Entry}
 use Rattle.partner.specs.Entry.{empty}
 use Rattle.partner.specs.Legal as rule
-use Rattle.partner.specs.Record.{entry-bytes}
-use Rattle.image.specs.Table.{identities, differs, apart, put}
+use Rattle.partner.specs.Table.{is-empty, identities, differs, apart}
 use Rattle.image.specs.Image.{slot-bytes, slots-bytes}
 use Rattle.image.specs.Places.{splice}
-use Rattle.image.proofs.Entries.{empty-is, legal-filled, legal-full, is-filled-real}
-use Rattle.image.proofs.Slots.{Stored, vacant, used, partner-bytes, vacant-size, used-size}
-use Rattle.image.proofs.Shifts.{byte-shift, splice-shift}
-use Rattle.image.proofs.Spots.{Spot, here, past-vacant, past-used}
+use Rattle.image.proofs.Entries.{Kept}
+use Rattle.image.proofs.Slots.{Stored, end, vacant, used, legal-or, identities-full}
 
--- ---- a row with the slot of a partner changed
+-- ---- bytes
 
-pub length-put : (id : Text) (x : Entry) (slots : List Entry) → length (put id x slots) ≡ length slots
-length-put id x [] = refl
-length-put id x (e ∷ slots) = go (same (e .identity .bytes) id) (length-put id x slots)
-  where
-    go : (b : Bool) → length (put id x slots) ≡ length slots
-        → length (cond b (x ∷ slots) (e ∷ put id x slots)) ≡ suc (length slots)
-    go true i = refl
-    go false i = ap suc i
-
-put-here : (id : Text) (x e : Entry) (slots : List Entry) → same (e .identity .bytes) id ≡ true
-    → put id x (e ∷ slots) ≡ x ∷ slots
-put-here id x e slots q = rw q
-
-put-past : (id : Text) (x e : Entry) (slots : List Entry) → same (e .identity .bytes) id ≡ false
-    → put id x (e ∷ slots) ≡ e ∷ put id x slots
-put-past id x e slots q = rw q
-
-first-out : (b s t : Text) → length b ≡ 156 → splice 0 157 t (2 ∷ (b ++ s)) ≡ t ++ s
+-- the middle of a text replaced
+pub splice-middle : (p b r t : Text) (at k : ℕ) → length p ≡ at → length b ≡ k
+    → splice at k t (p ++ (b ++ r)) ≡ p ++ (t ++ r)
 unfolding splice
-first-out b s t h = rw (drop-at b s 156 h)
+splice-middle p b r t at k h l =
+    let d : drop (at + k) (p ++ (b ++ r)) ≡ r =
+    ap (λ (i : ℕ). drop (i + k) (p ++ (b ++ r))) (sym h) ∙ drop-append-add p (b ++ r) k ∙ drop-at b r k l in
+    rw (take-at p (b ++ r) at h, d)
 
-first-kind : (e : Entry) (s : Text) → rule.legal e ≡ true → getD (slot-bytes e ++ s) 0 0 ≡ 2
-first-kind e s h = ap (λ (t : Text). getD t 0 0) (partner-bytes e s (legal-full e h))
+-- the records before a slot, the slot's, and those behind it
+pub row-set : (slots : List Entry) (k : ℕ) (x : Entry) → k < length slots
+    → slots-bytes (set slots k x) ≡ slots-bytes (take k slots) ++ (slot-bytes x ++ slots-bytes (drop (suc k) slots))
+row-set [] k x h = absurd (omega arith)
+row-set (e ∷ slots) zero x h = refl
+row-set (e ∷ slots) (suc k) x h =
+    ap (λ (s : Text). slot-bytes e ++ s) (row-set slots k x (omega arith))
+    ∙ sym (append-assoc (slot-bytes e) (slots-bytes (take k slots)) (slot-bytes x ++ slots-bytes (drop (suc k) slots)))
 
-pub identities-used : (e : Entry) (slots : List Entry) → rule.legal e ≡ true
-    → identities (e ∷ slots) ≡ e .identity .bytes ∷ identities slots
-identities-used e slots h = rw (legal-full e h)
+pub row-cut : (slots : List Entry) (k : ℕ) → k < length slots → slots-bytes slots
+    ≡ slots-bytes (take k slots) ++ (slot-bytes (getD slots k empty) ++ slots-bytes (drop (suc k) slots))
+row-cut slots k h = ap slots-bytes (sym (set-getD slots k empty)) ∙ row-set slots k (getD slots k empty) h
 
-pub identities-vacant : (slots : List Entry) → identities (empty ∷ slots) ≡ identities slots
-identities-vacant slots = rw empty-is
+-- ---- what a row holds
 
--- it lies within the bytes, whole, and is of kind 2
-pub spot-within : {id : Text} {slots : List Entry} {k : ℕ} → Spot id slots k → k + 157 ≤ length (slots-bytes slots)
-spot-within (here {e = e} {slots = slots} q h w st) =
-    let n = length-append (slot-bytes e) (slots-bytes slots) in
-    let m = used-size e h w in
-    omega arith
-spot-within (past-vacant {slots = slots} {k = k} sp) =
-    let n = length-append (slot-bytes empty) (slots-bytes slots) in
-    let m = vacant-size in
-    let i = spot-within sp in
-    omega arith
-spot-within (past-used {e = e} {slots = slots} {k = k} q h w sp) =
-    let n = length-append (slot-bytes e) (slots-bytes slots) in
-    let m = used-size e h w in
-    let i = spot-within sp in
-    omega arith
+pub stored-at : (slots : List Entry) → Stored slots → (k : ℕ)
+    → (getD slots k empty ≡ empty) ⊎ ((rule.legal (getD slots k empty) ≡ true) × Kept (getD slots k empty))
+stored-at [] end k = inl refl
+stored-at (e ∷ slots) (vacant st) zero = inl refl
+stored-at (e ∷ slots) (vacant st) (suc k) = stored-at slots st k
+stored-at (e ∷ slots) (used h w st) zero = inr (h, w)
+stored-at (e ∷ slots) (used h w st) (suc k) = stored-at slots st k
 
-pub spot-kind : {id : Text} {slots : List Entry} {k : ℕ} → Spot id slots k → getD (slots-bytes slots) k 0 ≡ 2
-spot-kind (here {e = e} {slots = slots} q h w st) = first-kind e (slots-bytes slots) h
-spot-kind (past-vacant {slots = slots} {k = k} sp) =
-    byte-shift (slot-bytes empty) (slots-bytes slots) 1 vacant-size k ∙ spot-kind sp
-spot-kind (past-used {e = e} {slots = slots} {k = k} q h w sp) =
-    byte-shift (slot-bytes e) (slots-bytes slots) 157 (used-size e h w) k ∙ spot-kind sp
+pub stored-set : (x : Entry) → ((l : List Entry) → Stored l → Stored (x ∷ l)) → (slots : List Entry) → Stored slots
+    → (k : ℕ) → Stored (set slots k x)
+stored-set x f [] end k = end
+stored-set x f (e ∷ slots) (vacant st) zero = f slots st
+stored-set x f (e ∷ slots) (vacant st) (suc k) = vacant (stored-set x f slots st k)
+stored-set x f (e ∷ slots) (used h w st) zero = f slots st
+stored-set x f (e ∷ slots) (used h w st) (suc k) = used h w (stored-set x f slots st k)
 
--- the identity is a legal entry's, so no sixteen zero bytes
-pub spot-real : {id : Text} {slots : List Entry} {k : ℕ} → Spot id slots k → same (copies 16 0) id ≡ false
-spot-real (here {e = e} q h w st) =
-    ap (same (copies 16 0)) (sym (same-equal (e .identity .bytes) _ q))
-    ∙ is-filled-real (e .identity .bytes) (legal-filled e h)
-spot-real (past-vacant sp) = spot-real sp
-spot-real (past-used q h w sp) = spot-real sp
+-- ---- the identities
 
-module _ (id : Text) (real : same (copies 16 0) id ≡ false) where
-  put-vacant : (x : Entry) (slots : List Entry) → put id x (empty ∷ slots) ≡ empty ∷ put id x slots
-  unfolding empty
-  put-vacant x slots = rw real
+-- where the entry keeps that of its slot
+pub identities-kept : (x : Entry) (slots : List Entry) (k : ℕ) → is-empty (getD slots k empty) ≡ false
+    → is-empty x ≡ false → x .identity .bytes ≡ getD slots k empty .identity .bytes
+    → identities (set slots k x) ≡ identities slots
+identities-kept x [] k e f i = refl
+identities-kept x (y ∷ slots) zero e f i =
+    identities-full x slots f ∙ ap (λ (n : Text). n ∷ identities slots) i ∙ sym (identities-full y slots e)
+identities-kept x (y ∷ slots) (suc k) e f i =
+    ap (λ (l : List Text). cond (is-empty y) l (y .identity .bytes ∷ l)) (identities-kept x slots k e f i)
 
-  pub splice-put : (x : Entry) {slots : List Entry} {k : ℕ} → Spot id slots k
-      → splice k 157 (slot-bytes x) (slots-bytes slots) ≡ slots-bytes (put id x slots)
-  splice-put x (here {e = e} {slots = slots} q h w st) =
-      ap (splice 0 157 (slot-bytes x)) (partner-bytes e (slots-bytes slots) (legal-full e h))
-      ∙ first-out (entry-bytes e) (slots-bytes slots) (slot-bytes x) (w .size)
-      ∙ ap slots-bytes (sym (put-here id x e slots q))
-  splice-put x (past-vacant {slots = slots} {k = k} sp) =
-      splice-shift (slot-bytes empty) (slots-bytes slots) 1 vacant-size k 157 (slot-bytes x)
-      ∙ ap (λ (t : Text). slot-bytes empty ++ t) (splice-put x sp) ∙ ap slots-bytes (sym (put-vacant x slots))
-  splice-put x (past-used {e = e} {slots = slots} {k = k} q h w sp) =
-      splice-shift (slot-bytes e) (slots-bytes slots) 157 (used-size e h w) k 157 (slot-bytes x)
-      ∙ ap (λ (t : Text). slot-bytes e ++ t) (splice-put x sp) ∙ ap slots-bytes (sym (put-past id x e slots q))
+pub same-sym : (v w : Text) → same v w ≡ false → same w v ≡ false
+same-sym v w h = differs-same w v (λ e. same-differs v w h (sym e))
 
-  pub stored-put : (x : Entry) → ((l : List Entry) → Stored l → Stored (x ∷ l)) → {slots : List Entry} {k : ℕ}
-      → Spot id slots k → Stored (put id x slots)
-  stored-put x f (here {e = e} {slots = slots} q h w st) = subst Stored (sym (put-here id x e slots q)) (f slots st)
-  stored-put x f (past-vacant {slots = slots} sp) =
-      subst Stored (sym (put-vacant x slots)) (vacant (stored-put x f sp))
-  stored-put x f (past-used {e = e} {slots = slots} q h w sp) =
-      subst Stored (sym (put-past id x e slots q)) (used h w (stored-put x f sp))
+or-so : (a b : Bool) → (a ≡ false → b ≡ true) → a || b ≡ true
+or-so true b f = refl
+or-so false b f = f refl
 
-  -- the identities, where the entry keeps its own
-  pub identities-put : (x : Entry) → rule.legal x ≡ true → x .identity .bytes ≡ id → {slots : List Entry} {k : ℕ}
-      → Spot id slots k → identities (put id x slots) ≡ identities slots
-  identities-put x g i (here {e = e} {slots = slots} q h w st) =
-      let j : x .identity .bytes ≡ e .identity .bytes = i ∙ sym (same-equal (e .identity .bytes) id q) in
-      ap identities (put-here id x e slots q) ∙ identities-used x slots g
-      ∙ ap (λ (n : Text). n ∷ identities slots) j ∙ sym (identities-used e slots h)
-  identities-put x g i (past-vacant {slots = slots} sp) =
-      ap identities (put-vacant x slots) ∙ identities-vacant (put id x slots) ∙ identities-put x g i sp
-      ∙ sym (identities-vacant slots)
-  identities-put x g i (past-used {e = e} {slots = slots} q h w sp) =
-      ap identities (put-past id x e slots q) ∙ identities-used e (put id x slots) h
-      ∙ ap (λ (l : List Text). e .identity .bytes ∷ l) (identities-put x g i sp) ∙ sym (identities-used e slots h)
+differs-cons : (n : Text) (e : Entry) (slots : List Entry) → differs n (identities (e ∷ slots))
+    ≡ (is-empty e || not (same (e .identity .bytes) n)) && differs n (identities slots)
+differs-cons n e slots = go (is-empty e)
+  where
+    l : List Text
+    l = identities slots
 
-  -- and where the slot is emptied
-  pub differs-out : (n : Text) {slots : List Entry} {k : ℕ} → Spot id slots k → differs n (identities slots) ≡ true
-      → differs n (identities (put id empty slots)) ≡ true
-  differs-out n (here {e = e} {slots = slots} q h w st) d =
-      let d′ = ap (differs n) (sym (identities-used e slots h)) ∙ d in
-      ap (λ (l : List Entry). differs n (identities l)) (put-here id empty e slots q)
-      ∙ ap (differs n) (identities-vacant slots)
-      ∙ both (not (same (e .identity .bytes) n)) (differs n (identities slots)) d′ .1
-  differs-out n (past-vacant {slots = slots} sp) d =
-      ap (λ (l : List Entry). differs n (identities l)) (put-vacant empty slots)
-      ∙ ap (differs n) (identities-vacant (put id empty slots))
-      ∙ differs-out n sp (ap (differs n) (sym (identities-vacant slots)) ∙ d)
-  differs-out n (past-used {e = e} {slots = slots} q h w sp) d =
-      let d′ = ap (differs n) (sym (identities-used e slots h)) ∙ d in
-      let b = both (not (same (e .identity .bytes) n)) (differs n (identities slots)) d′ in
-      ap (λ (l : List Entry). differs n (identities l)) (put-past id empty e slots q)
-      ∙ ap (differs n) (identities-used e (put id empty slots) h)
-      ∙ rw (b .0) (differs-out n sp (b .1))
+    go : (b : Bool) → differs n (cond b l (e .identity .bytes ∷ l))
+        ≡ (b || not (same (e .identity .bytes) n)) && differs n l
+    go true = refl
+    go false = refl
 
-  pub apart-out : {slots : List Entry} {k : ℕ} → Spot id slots k → apart (identities slots) ≡ true
-      → apart (identities (put id empty slots)) ≡ true
-  apart-out (here {e = e} {slots = slots} q h w st) d =
-      let d′ = ap apart (sym (identities-used e slots h)) ∙ d in
-      ap (λ (l : List Entry). apart (identities l)) (put-here id empty e slots q)
-      ∙ ap apart (identities-vacant slots)
-      ∙ both (differs (e .identity .bytes) (identities slots)) (apart (identities slots)) d′ .1
-  apart-out (past-vacant {slots = slots} sp) d =
-      ap (λ (l : List Entry). apart (identities l)) (put-vacant empty slots)
-      ∙ ap apart (identities-vacant (put id empty slots))
-      ∙ apart-out sp (ap apart (sym (identities-vacant slots)) ∙ d)
-  apart-out (past-used {e = e} {slots = slots} q h w sp) d =
-      let d′ = ap apart (sym (identities-used e slots h)) ∙ d in
-      let b = both (differs (e .identity .bytes) (identities slots)) (apart (identities slots)) d′ in
-      ap (λ (l : List Entry). apart (identities l)) (put-past id empty e slots q)
-      ∙ ap apart (identities-used e (put id empty slots) h)
-      ∙ rw (differs-out (e .identity .bytes) sp (b .0)) (apart-out sp (b .1))
+apart-cons : (e : Entry) (slots : List Entry) → apart (identities (e ∷ slots))
+    ≡ (is-empty e || differs (e .identity .bytes) (identities slots)) && apart (identities slots)
+apart-cons e slots = go (is-empty e)
+  where
+    l : List Text
+    l = identities slots
+
+    go : (b : Bool) → apart (cond b l (e .identity .bytes ∷ l)) ≡ (b || differs (e .identity .bytes) l) && apart l
+    go true = refl
+    go false = refl
+
+module _ (n : Text) (e : Entry) (slots : List Entry) (h : differs n (identities (e ∷ slots)) ≡ true) where
+  differs-both : ((is-empty e || not (same (e .identity .bytes) n)) ≡ true) × (differs n (identities slots) ≡ true)
+  differs-both =
+      both (is-empty e || not (same (e .identity .bytes) n)) (differs n (identities slots))
+      (sym (differs-cons n e slots) ∙ h)
+
+module _ (x : Entry) where
+  pub differs-set : (n : Text) (slots : List Entry) (k : ℕ) → differs n (identities slots) ≡ true
+      → (is-empty x ≡ false → same (x .identity .bytes) n ≡ false) → differs n (identities (set slots k x)) ≡ true
+  differs-set n [] k d f = refl
+  differs-set n (e ∷ slots) zero d f =
+      let o : (is-empty x || not (same (x .identity .bytes) n)) ≡ true =
+      or-so (is-empty x) (not (same (x .identity .bytes) n)) (λ z. ap not (f z)) in
+      differs-cons n x slots ∙ rw o (differs-both n e slots d .1)
+  differs-set n (e ∷ slots) (suc k) d f =
+      let b = differs-both n e slots d in
+      differs-cons n e (set slots k x) ∙ rw (b .0) (differs-set n slots k (b .1) f)
+
+  pub apart-set : (slots : List Entry) (k : ℕ) → apart (identities slots) ≡ true
+      → (is-empty x ≡ false → differs (x .identity .bytes) (identities slots) ≡ true)
+      → apart (identities (set slots k x)) ≡ true
+  apart-set [] k d f = refl
+  apart-set (e ∷ slots) zero d f =
+      let b = both (is-empty e || differs (e .identity .bytes) (identities slots)) (apart (identities slots))
+      (sym (apart-cons e slots) ∙ d) in
+      let o : (is-empty x || differs (x .identity .bytes) (identities slots)) ≡ true =
+      or-so (is-empty x) (differs (x .identity .bytes) (identities slots))
+      (λ z. differs-both (x .identity .bytes) e slots (f z) .1) in
+      apart-cons x slots ∙ rw o (b .1)
+  apart-set (e ∷ slots) (suc k) d f =
+      let i = e .identity .bytes in
+      let j = x .identity .bytes in
+      let b = both (is-empty e || differs i (identities slots)) (apart (identities slots)) (sym (apart-cons e slots) ∙ d) in
+      let o : (is-empty e || differs i (identities (set slots k x))) ≡ true =
+      or-so (is-empty e) (differs i (identities (set slots k x)))
+      (λ z. differs-set i slots k (legal-or (is-empty e) (differs i (identities slots)) z (b .0))
+      (λ y. same-sym i j (not-true (same i j) (legal-or (is-empty e) (not (same i j)) z (differs-both j e slots (f y) .0))))) in
+      apart-cons e (set slots k x) ∙ rw o (apart-set slots k (b .1) (λ y. differs-both j e slots (f y) .1))

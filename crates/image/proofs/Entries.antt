@@ -1,6 +1,6 @@
 -- One entry's record: its size, the empty one, and that a legal one is not empty.
 use mathlib.Core.Path.{_≡_, refl, sym, ap, _∙_, subst}
-use mathlib.Core.Bool.{Bool, true, false, _&&_, true≢false}
+use mathlib.Core.Bool.{true, false, true≢false}
 use mathlib.Core.List.{[], _∷_, _++_, append-assoc}
 use Prim.Native.Nat.{zero, suc}
 use lib.Dec.{eqb·suc-zero, eqb·zero-suc}
@@ -16,10 +16,11 @@ use Rattle.partner.specs.Record.{front-bytes, top-bytes, count-bytes, place-byt
 use Rattle.partner.specs.Record.{entry-bytes, set-in, entry-in}
 use Rattle.partner.specs.Held.{Held}
 use Rattle.partner.proofs.Naming.{filled-length}
+use Rattle.partner.proofs.Keeping.{rules}
 use Rattle.partner.proofs.Storing.{length-part}
 use Rattle.partner.proofs.Fielding.{length-entry, entry-back}
 use Rattle.partner.proofs.Joining.{entry-held}
-use Rattle.image.specs.Table.{is-empty}
+use Rattle.partner.specs.Table.{is-empty}
 
 -- ---- sizes
 
@@ -44,10 +45,6 @@ pub held-kept : (e : Entry) → Held e → Kept e
 held-kept e h = record { size = length-entry e h; back = entry-back e h }
 
 -- ---- the empty one
-
-pub empty-bytes : entry-bytes empty ≡ copies 156 0
-unfolding entry-bytes front-bytes count-bytes top-bytes set-bytes place-bytes empty
-empty-bytes = refl
 
 pub empty-in : entry-in (copies 156 0) ≡ empty
 unfolding entry-in set-in empty number
@@ -75,24 +72,16 @@ filled-front [] n x y h = absurd (true≢false (sym h))
 filled-front (zero ∷ s) n x y h = absurd (true≢false (sym h))
 filled-front (suc c ∷ s) n x y h = rw (eqb·suc-zero c)
 
-first-of-seven : (a b c d e f g : Bool) → a && b && c && d && e && f && g ≡ true → a ≡ true
-first-of-seven true b c d e f g h = refl
-first-of-seven false b c d e f g h = absurd (true≢false (sym h))
-
-first-of-four : (a b c d : Bool) → a && b && c && d ≡ true → a ≡ true
-first-of-four true b c d h = refl
-first-of-four false b c d h = absurd (true≢false (sym h))
-
 pub legal-filled : (e : Entry) → rule.legal e ≡ true → rule.is-filled (e .identity .bytes) ≡ true
-unfolding rule.legal rule.names-formed
-legal-filled e h =
-    first-of-four (rule.is-filled (e .identity .bytes)) _ _ _
-    (first-of-seven (rule.names-formed e) (rule.unused-zero e) (rule.top-odd e) (rule.counts-right e)
-    (rule.idle-right e) (rule.outgoing-right e) (rule.incoming-right e) h)
+legal-filled e h = rules e h .identity-filled
+
+-- with such an identity it is not empty
+pub filled-full : (e : Entry) → rule.is-filled (e .identity .bytes) ≡ true → is-empty e ≡ false
+unfolding is-empty entry-bytes front-bytes
+filled-full e h = filled-front (e .identity .bytes) (e .name .bytes) _ _ h
 
 pub legal-full : (e : Entry) → rule.legal e ≡ true → is-empty e ≡ false
-unfolding is-empty entry-bytes front-bytes
-legal-full e h = filled-front (e .identity .bytes) (e .name .bytes) _ _ (legal-filled e h)
+legal-full e h = filled-full e (legal-filled e h)
 
 -- a filled name is no sixteen zero bytes
 pub is-filled-real : (s : Text) → rule.is-filled s ≡ true → same (copies 16 0) s ≡ false

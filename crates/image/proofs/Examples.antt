@@ -1,7 +1,7 @@
 -- The examples hold, by computation.
 use mathlib.Core.Path.{refl}
 use Rattle.partner.proofs.Examples.{computes as computes-entry}
-use Rattle.image.specs.Table.{is-empty, slots-legal, legal, empties}
+use Rattle.partner.specs.Table.{is-empty, slots-legal, legal, empties}
 use Rattle.image.specs.Image.{record-length, slot-bytes, encode, slot-in, slots-in, table-in, decode}
 use Rattle.image.specs.Examples.{Examples}
 

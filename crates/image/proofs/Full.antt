@@ -8,7 +8,7 @@ use Rattle.octets.specs.Text.{ascii}
 use Rattle.partner.specs.declared.Name.{Name}
 use Rattle.partner.specs.declared.Entry.{Entry}
 use Rattle.partner.specs.Examples.{entry, top, L, no-set}
-use Rattle.image.specs.Table.{Table}
+use Rattle.partner.specs.Table.{Table}
 use Rattle.image.specs.Image.{encode, decode}
 use Rattle.image.specs.Examples.{harbor, vacants}
 use Rattle.image.proofs.Examples.{computes}

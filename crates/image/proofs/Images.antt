@@ -14,7 +14,7 @@ use Rattle.octets.specs.Part.{all-octets}
 use Rattle.octets.proofs.Comparing.{both, same-equal, same-self, all-drop}
 use Rattle.partner.specs.Legal as rule
 use Rattle.partner.proofs.Naming.{filled-length}
-use Rattle.image.specs.Table.{Table, legal, slots-legal, identities, apart, AllHeld}
+use Rattle.partner.specs.Table.{Table, legal, slots-legal, identities, apart, AllHeld}
 use Rattle.image.specs.Image.{encode, slots-bytes, slots-in, table-in, decode, found}
 use Rattle.image.proofs.Slots.{Stored, slots-back, stored-read, slots-size, row-held}
 
@@ -109,6 +109,11 @@ decoded s t h =
       is-legal = b .1 .0;
       stored = stored-read (t .slots) (slots-read t r w) (r .each-legal);
     }
+
+-- its slots are those that are read of the image
+pub slots-there : (s : Text) (t : Table) → decode s ≡ some t → t .slots ≡ slots-in 64 (drop 17 s)
+unfolding table-in
+slots-there s t h = ap (λ (u : Table). u .slots) (sym (read-back s t h .0))
 
 -- ---- sizes
 

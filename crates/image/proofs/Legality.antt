@@ -1,6 +1,6 @@
 -- An image is legal exactly where a pass over its front and its records finds nothing wrong.
 use mathlib.Core.Path.{_≡_, refl, sym, ap, _∙_}
-use mathlib.Core.Bool.{Bool, true, false, not, _&&_, true≢false, Bool·not-not}
+use mathlib.Core.Bool.{Bool, true, false, _&&_, true≢false}
 use mathlib.Core.List.{_∷_, _++_}
 use mathlib.Core.Option.{Option, none, some}
 use Prim.Native.Nat.{ℕ, suc, _<_}
@@ -14,62 +14,50 @@ use Rattle.octets.specs.Part.{all-octets}
 use Rattle.octets.proofs.Comparing.{both, drop-step}
 use Rattle.partner.specs.Legal as rule
 use Rattle.partner.proofs.Naming.{filled-length}
-use Rattle.image.specs.Table.{Table, identities, differs, apart}
+use Rattle.partner.specs.Table.{Table, identities, differs, apart}
 use Rattle.image.specs.Image.{slots-bytes, slots-in, encode, decode, found}
-use Rattle.image.specs.Places.{own-in, seek, seek-free, place-of, free-place}
+use Rattle.image.specs.Places.{own-in}
 use Rattle.image.specs.Pass.{apart-from, front-legal}
+use Rattle.image.proofs.Entries.{is-filled-real}
 use Rattle.image.proofs.Slots.{Stored, slots-legal-stored}
 use Rattle.image.proofs.Images.{Rules, rules, rules-legal, decoded, decode-encode}
-use Rattle.image.proofs.Shifts.{moved, seek-shift, free-shift}
-use Rattle.image.proofs.Spots.{found-moved, seek-differs}
+use Rattle.image.proofs.Shifts.{seek-shift}
+use Rattle.image.proofs.Spots.{row-apart}
 use Rattle.image.proofs.Passes.{records-legal, pass-row, Row, row, length-row}
 
 -- ---- an image that is written
 
-module _ (t : Table) (own-16 : length (t .own) ≡ 16) (slots-64 : length (t .slots) ≡ 64) where
-  pub place-encode : (id : Text) → place-of id (encode t)
-      ≡ moved 17 (seek (length (t .slots)) 0 id (slots-bytes (t .slots)))
-  unfolding place-of encode
-  place-encode id =
-      seek-shift (1 ∷ t .own) (slots-bytes (t .slots)) 17 (ap suc own-16) 64 0 id
-      ∙ ap (λ (n : ℕ). moved 17 (seek n 0 id (slots-bytes (t .slots)))) (sym slots-64)
+module _ (t : Table) (own-16 : length (t .own) ≡ 16) (slots-64 : length (t .slots) ≡ 64)
+    (own-filled : rule.is-filled (t .own) ≡ true) (st : Stored (t .slots)) where
+  own-there : own-in (encode t) ≡ t .own
+  unfolding encode
+  own-there = take-at (t .own) (slots-bytes (t .slots)) 16 own-16
 
-  pub free-encode : free-place (encode t) ≡ moved 17 (seek-free (length (t .slots)) 0 (slots-bytes (t .slots)))
-  unfolding free-place encode
-  free-encode =
-      free-shift (1 ∷ t .own) (slots-bytes (t .slots)) 17 (ap suc own-16) 64 0
-      ∙ ap (λ (n : ℕ). moved 17 (seek-free n 0 (slots-bytes (t .slots)))) (sym slots-64)
+  own-alone : apart-from 64 17 (t .own) (encode t) ≡ differs (t .own) (identities (t .slots))
+  unfolding encode
+  own-alone =
+      let s = slots-bytes (t .slots) in
+      ap (λ (n : ℕ). eqb n 64) (seek-shift (1 ∷ t .own) s 17 (ap suc own-16) 64 0 0 (t .own))
+      ∙ ap (λ (n : ℕ). apart-from n 0 (t .own) s) (sym slots-64)
+      ∙ row-apart (t .own) (is-filled-real (t .own) own-filled) (t .slots) st
 
-  module _ (own-filled : rule.is-filled (t .own) ≡ true) (st : Stored (t .slots)) where
-    own-there : own-in (encode t) ≡ t .own
-    unfolding encode
-    own-there = take-at (t .own) (slots-bytes (t .slots)) 16 own-16
+  first-there : eqb (getD (encode t) 0 0) 1 ≡ true
+  unfolding encode
+  first-there = refl
 
-    own-alone : apart-from 64 17 (t .own) (encode t) ≡ differs (t .own) (identities (t .slots))
-    unfolding place-of
-    own-alone =
-        ap (λ (o : Option ℕ). not (found o)) (place-encode (t .own))
-        ∙ ap not
-        (found-moved 17 (seek (length (t .slots)) 0 (t .own) (slots-bytes (t .slots))) ∙ seek-differs (t .own) (t .slots) st)
-        ∙ Bool·not-not (differs (t .own) (identities (t .slots)))
+  front-encode : front-legal (encode t) ≡ differs (t .own) (identities (t .slots))
+  unfolding front-legal
+  front-encode = rw (first-there, own-there, own-filled) own-alone
 
-    first-there : eqb (getD (encode t) 0 0) 1 ≡ true
-    unfolding encode
-    first-there = refl
+  rows-encode : records-legal 64 17 (encode t) ≡ apart (identities (t .slots))
+  unfolding encode
+  rows-encode =
+      ap (λ (n : ℕ). records-legal n 17 (encode t)) (sym slots-64)
+      ∙ pass-row (t .slots) st (1 ∷ t .own) 17 (ap suc own-16)
 
-    front-encode : front-legal (encode t) ≡ differs (t .own) (identities (t .slots))
-    unfolding front-legal
-    front-encode = rw (first-there, own-there, own-filled) own-alone
-
-    rows-encode : records-legal 64 17 (encode t) ≡ apart (identities (t .slots))
-    unfolding encode
-    rows-encode =
-        ap (λ (n : ℕ). records-legal n 17 (encode t)) (sym slots-64)
-        ∙ pass-row (t .slots) st (1 ∷ t .own) 17 (ap suc own-16)
-
-    pub pass-encode : front-legal (encode t) && records-legal 64 17 (encode t)
-        ≡ apart (t .own ∷ identities (t .slots))
-    pass-encode = rw (front-encode, rows-encode)
+  pub pass-encode : front-legal (encode t) && records-legal 64 17 (encode t)
+      ≡ apart (t .own ∷ identities (t .slots))
+  pass-encode = rw (front-encode, rows-encode)
 
 -- ---- a legal image passes
 

@@ -1,6 +1,6 @@
 -- What a pass over the records asks: of the bytes of a row that the identities differ, and only such bytes pass.
 use mathlib.Core.Path.{_≡_, refl, sym, ap, _∙_, subst}
-use mathlib.Core.Bool.{Bool, true, false, cond, not, _&&_, Bool·not-not}
+use mathlib.Core.Bool.{Bool, true, false, cond, _&&_}
 use mathlib.Core.List.{List, [], _∷_, _++_, append-assoc}
 use Prim.Native.Nat.{ℕ, zero, suc, _+_, _-_, _≤_, _<_}
 use native.Mathlib.Omega.{arith}
@@ -16,16 +16,15 @@ use Rattle.partner.specs.Entry.{empty}
 use Rattle.partner.specs.Legal as rule
 use Rattle.partner.specs.Record.{entry-bytes, entry-in}
 use Rattle.partner.proofs.Joining.{read-written}
-use Rattle.image.specs.Table.{legal, identities, differs, apart}
-use Rattle.image.specs.Image.{record-length, slots-bytes, slots-in, found}
-use Rattle.image.specs.Places.{seek, entry-at}
-use Rattle.image.specs.Pass.{identity-at, record-legal}
-use Rattle.image.proofs.Entries.{Kept, size-in, legal-full, identity-front}
+use Rattle.partner.specs.Table.{legal, identities, differs, apart}
+use Rattle.image.specs.Image.{record-length, slots-bytes, slots-in}
+use Rattle.image.specs.Places.{entry-at}
+use Rattle.image.specs.Pass.{identity-at, apart-from, record-legal}
+use Rattle.image.proofs.Entries.{Kept, size-in, legal-filled, legal-full, is-filled-real, identity-front}
 use Rattle.image.proofs.Slots.{Stored, end, vacant, used, vacant-bytes, partner-bytes}
-use Rattle.image.proofs.Slots.{vacant-in, partner-in}
+use Rattle.image.proofs.Slots.{identities-vacant, identities-full, vacant-in, partner-in}
 use Rattle.image.proofs.Shifts.{byte-shift, drop-shift, seek-shift, entry-shift}
-use Rattle.image.proofs.Spots.{found-moved, seek-differs}
-use Rattle.image.proofs.Edits.{identities-used, identities-vacant}
+use Rattle.image.proofs.Spots.{row-apart}
 
 -- n records from a place on, and the end behind them
 unfoldable pub records-legal : ℕ → ℕ → Text → Bool
@@ -84,20 +83,20 @@ module _ (p r : Text) (a n : ℕ) (size : length p ≡ a) where
     length-there : length (p ++ (2 ∷ b)) ≡ a + 157
     length-there = length-append p (2 ∷ b) ∙ omega arith
 
-    seek-there : (id : Text) → found (seek n (a + 157) id whole) ≡ found (seek n 0 id r)
-    seek-there id =
+    apart-there : (id : Text) → apart-from n (a + 157) id whole ≡ apart-from n 0 id r
+    apart-there id =
         let i : a + 157 ≡ a + 157 + 0 = omega arith in
-        ap (λ (t : Text). found (seek n (a + 157) id t)) split-there
-        ∙ ap (λ (j : ℕ). found (seek n j id ((p ++ (2 ∷ b)) ++ r))) i
-        ∙ ap found (seek-shift (p ++ (2 ∷ b)) r (a + 157) length-there n 0 id) ∙ found-moved (a + 157) (seek n 0 id r)
+        ap (λ (t : Text). apart-from n (a + 157) id t) split-there
+        ∙ ap (λ (j : ℕ). apart-from n j id ((p ++ (2 ∷ b)) ++ r)) i
+        ∙ ap (λ (k : ℕ). eqb k n) (seek-shift (p ++ (2 ∷ b)) r (a + 157) length-there n 0 0 id)
 
     pass-used : records-legal (suc n) a whole ≡ rule.legal (entry-in b)
-        && not (found (seek n 0 (take 16 (b ++ r)) r)) && records-legal n (a + 157) ((p ++ (2 ∷ b)) ++ r)
+        && apart-from n 0 (take 16 (b ++ r)) r && records-legal n (a + 157) ((p ++ (2 ∷ b)) ++ r)
     unfolding records-legal record-legal record-length
     pass-used =
         let id : Text = take 16 (b ++ r) in
-        let here = rule.legal (entry-in b) && not (found (seek n 0 id r)) in
-        rw (kind-there, le-leb (a + 157) (length whole) fits-there, entry-there, identity-there, seek-there id)
+        let here = rule.legal (entry-in b) && apart-from n 0 id r in
+        rw (kind-there, le-leb (a + 157) (length whole) fits-there, entry-there, identity-there, apart-there id)
         (ap (λ (t : Text). here && records-legal n (a + 157) t) split-there)
 
 pass-end : (p : Text) (a : ℕ) → length p ≡ a → records-legal 0 a (p ++ []) ≡ true
@@ -121,15 +120,15 @@ pass-row (e ∷ slots) (used l k st) p a h =
     let s = slots-bytes slots in
     let b = entry-bytes e in
     let id = e .identity .bytes in
-    let d : not (found (seek n 0 (take 16 (b ++ s)) s)) ≡ differs id (identities slots) =
-    ap (λ (i : Text). not (found (seek n 0 i s))) (identity-front e s l) ∙ ap not (seek-differs id slots st)
-    ∙ Bool·not-not (differs id (identities slots)) in
+    let d : apart-from n 0 (take 16 (b ++ s)) s ≡ differs id (identities slots) =
+    ap (λ (i : Text). apart-from n 0 i s) (identity-front e s l)
+    ∙ row-apart id (is-filled-real id (legal-filled e l)) slots st in
     ap (λ (t : Text). records-legal (suc n) a (p ++ t)) (partner-bytes e s (legal-full e l))
     ∙ pass-used p s a n h b (k .size)
-    ∙ three (rule.legal (entry-in b)) (not (found (seek n 0 (take 16 (b ++ s)) s))) (differs id (identities slots))
+    ∙ three (rule.legal (entry-in b)) (apart-from n 0 (take 16 (b ++ s)) s) (differs id (identities slots))
     (records-legal n (a + 157) ((p ++ (2 ∷ b)) ++ s)) (apart (identities slots)) (ap rule.legal (k .back) ∙ l) d
     (pass-row slots st (p ++ (2 ∷ b)) (a + 157) (length-there p s a n h b (k .size)))
-    ∙ ap apart (sym (identities-used e slots l))
+    ∙ ap apart (sym (identities-full e slots (legal-full e l)))
 
 -- ---- a row that passes is stored as it is read
 
@@ -143,7 +142,7 @@ unfolding record-legal
 there n at s h = go (eqb (getD s at 0) 0) refl h
   where
     rest : Bool
-    rest = not (found (seek n (at + 157) (identity-at at s) s))
+    rest = apart-from n (at + 157) (identity-at at s) s
 
     go : (b : Bool) → eqb (getD s at 0) 0 ≡ b
         → cond b (ltb at (length s))

@@ -17,7 +17,7 @@ use Rattle.partner.specs.Legal as rule
 use Rattle.partner.specs.Record.{entry-bytes, entry-in}
 use Rattle.partner.specs.Held.{Held}
 use Rattle.partner.proofs.Joining.{entry-held}
-use Rattle.image.specs.Table.{is-empty, slots-legal, AllHeld}
+use Rattle.partner.specs.Table.{is-empty, slots-legal, identities, AllHeld}
 use Rattle.image.specs.Image.{record-length, slot-bytes, slots-bytes, slot-in, slots-in}
 use Rattle.image.proofs.Entries.{Kept, held-kept, size-in, empty-held, empty-is, is-empty-empty, legal-full}
 
@@ -44,6 +44,13 @@ vacant-size = rw empty-is
 pub used-size : (e : Entry) → rule.legal e ≡ true → Kept e → length (slot-bytes e) ≡ 157
 unfolding slot-bytes
 used-size e h k = rw (legal-full e h) (ap suc (k .size))
+
+pub identities-vacant : (slots : List Entry) → identities (empty ∷ slots) ≡ identities slots
+identities-vacant slots = rw empty-is
+
+pub identities-full : (e : Entry) (slots : List Entry) → is-empty e ≡ false
+    → identities (e ∷ slots) ≡ e .identity .bytes ∷ identities slots
+identities-full e slots h = rw h
 
 pub vacant-in : (n : ℕ) (s : Text) → slots-in (suc n) (0 ∷ s) ≡ empty ∷ slots-in n s
 unfolding slots-in slot-in record-length
@@ -110,7 +117,7 @@ read n e slots p = go (is-empty e) refl
     go true z = read-vacant n e slots z p
     go false z = read-used n e slots z p
 
-legal-or : (a b : Bool) → a ≡ false → a || b ≡ true → b ≡ true
+pub legal-or : (a b : Bool) → a ≡ false → a || b ≡ true → b ≡ true
 legal-or true b z h = absurd (true≢false z)
 legal-or false b z h = h
 

@@ -1,8 +1,7 @@
 -- One step of each loop over the records, and parts of an image.
 use mathlib.Core.Path.{_≡_, refl, sym, ap, _∙_}
-use mathlib.Core.Bool.{Bool, true, false, cond, not, _&&_}
+use mathlib.Core.Bool.{Bool, true, false, cond, _&&_}
 use mathlib.Core.List.{[], _∷_}
-use mathlib.Core.Option.{Option, none, some}
 use Prim.Native.Nat.{ℕ, zero, suc, _+_, _-_, _≤_, _<_, min}
 use native.Mathlib.Omega.{arith}
 use lib.Dec.{eqb, ltb, leb}
@@ -11,11 +10,9 @@ use lib.Seq.{take-all}
 use borrow.Author.Tests.{eq-eqb, ne-eqb, le-leb, lt-leb, leb-true, leb-false}
 use Rattle.octets.specs.Text.{Text}
 use Rattle.partner.specs.Legal as rule
-use Rattle.image.specs.declared.Place.the-variants.{At, Nothing}
-use Rattle.image.specs.Image.{record-length, found}
-use Rattle.image.specs.Places.{own-in, is-partner, seek, seek-free, entry-at}
+use Rattle.image.specs.Image.{record-length}
+use Rattle.image.specs.Places.{own-in, is-partner, seek-slot, seek-free, past, entry-at}
 use Rattle.image.specs.Pass.{identity-at, apart-from, front-legal, record-legal}
-use Rattle.image.specs.Results.{placed}
 
 -- ---- bytes and parts
 
@@ -88,58 +85,51 @@ length-small kind = go (eqb kind 2)
 
 -- ---- the searches
 
-pub seek-end : (n at : ℕ) (id s : Text) → n ≡ 0 → seek n at id s ≡ none
-unfolding seek
-seek-end n at id s h = rw h
+pub seek-end : (n k at : ℕ) (id s : Text) → n ≡ 0 → seek-slot n k at id s ≡ k
+unfolding seek-slot
+seek-end n k at id s h = rw h
 
-module _ (n at : ℕ) (id s : Text) (more : 0 < n) where
-  one : n ≡ suc (n - 1)
-  one = omega arith
+module _ (n k at : ℕ) (id s : Text) (more : 0 < n) where
+  abbrev seek-on : ℕ
+  seek-on = seek-slot (n - 1) (k + 1) (at + record-length (getD s at 0)) id s
 
-  seek-open : seek n at id s ≡ cond (is-partner at id s) (some at) (seek (n - 1) (at + record-length (getD s at 0)) id s)
-  unfolding seek
-  seek-open = ap (λ (m : ℕ). seek m at id s) one
+  seek-open : seek-slot n k at id s ≡ cond (is-partner at id s) k seek-on
+  unfolding seek-slot
+  seek-open = let one : n ≡ suc (n - 1) = omega arith in ap (λ (m : ℕ). seek-slot m k at id s) one
 
-  pub seek-hit : is-partner at id s ≡ true → seek n at id s ≡ some at
-  seek-hit h = seek-open ∙ ap (λ (b : Bool). cond b (some at) (seek (n - 1) (at + record-length (getD s at 0)) id s)) h
+  pub seek-hit : is-partner at id s ≡ true → seek-slot n k at id s ≡ k
+  seek-hit h = seek-open ∙ ap (λ (b : Bool). cond b k seek-on) h
 
-  pub seek-miss : is-partner at id s ≡ false → seek n at id s ≡ seek (n - 1) (at + record-length (getD s at 0)) id s
-  seek-miss h = seek-open ∙ ap (λ (b : Bool). cond b (some at) (seek (n - 1) (at + record-length (getD s at 0)) id s)) h
+  pub seek-miss : is-partner at id s ≡ false → seek-slot n k at id s ≡ seek-on
+  seek-miss h = seek-open ∙ ap (λ (b : Bool). cond b k seek-on) h
 
-pub free-end : (n at : ℕ) (s : Text) → n ≡ 0 → seek-free n at s ≡ none
+pub free-end : (n k at : ℕ) (s : Text) → n ≡ 0 → seek-free n k at s ≡ k
 unfolding seek-free
-free-end n at s h = rw h
+free-end n k at s h = rw h
 
-module _ (n at : ℕ) (s : Text) (more : 0 < n) where
-  one-free : n ≡ suc (n - 1)
-  one-free = omega arith
+module _ (n k at : ℕ) (s : Text) (more : 0 < n) where
+  abbrev free-on : ℕ
+  free-on = seek-free (n - 1) (k + 1) (at + record-length (getD s at 0)) s
 
-  free-open : seek-free n at s
-      ≡ cond (eqb (getD s at 0) 0) (some at) (seek-free (n - 1) (at + record-length (getD s at 0)) s)
+  free-open : seek-free n k at s ≡ cond (eqb (getD s at 0) 0) k free-on
   unfolding seek-free
-  free-open = ap (λ (m : ℕ). seek-free m at s) one-free
+  free-open = let one : n ≡ suc (n - 1) = omega arith in ap (λ (m : ℕ). seek-free m k at s) one
 
-  pub free-hit : getD s at 0 ≡ 0 → seek-free n at s ≡ some at
-  free-hit h = free-open ∙ rw (eq-eqb (getD s at 0) 0 h)
+  pub free-hit : getD s at 0 ≡ 0 → seek-free n k at s ≡ k
+  free-hit h = free-open ∙ ap (λ (b : Bool). cond b k free-on) (eq-eqb (getD s at 0) 0 h)
 
-  pub free-miss : (getD s at 0 ≡ 0 → ⊥) → seek-free n at s ≡ seek-free (n - 1) (at + record-length (getD s at 0)) s
-  free-miss h = free-open ∙ rw (ne-eqb (getD s at 0) 0 h)
+  pub free-miss : (getD s at 0 ≡ 0 → ⊥) → seek-free n k at s ≡ free-on
+  free-miss h = free-open ∙ ap (λ (b : Bool). cond b k free-on) (ne-eqb (getD s at 0) 0 h)
 
--- ---- found or not
+-- ---- from record to record
 
-pub was-nothing : (o : Option ℕ) → placed o ≡ Nothing → o ≡ none
-was-nothing none h = refl
-was-nothing (some at) h = absurd (let z : _≡_ {A = ℕ} 0 1 = cc in omega arith)
+pub past-none : (n at : ℕ) (s : Text) → n ≡ 0 → past n at s ≡ at
+unfolding past
+past-none n at s h = rw h
 
-pub was-at : (o : Option ℕ) (at : ℕ) → placed o ≡ At at → o ≡ some at
-was-at none at h = absurd (let z : _≡_ {A = ℕ} 0 1 = cc in omega arith)
-was-at (some k) at h = let e : k ≡ at = cc in ap {B = Option ℕ} some e
-
-pub nothing-there : (o : Option ℕ) → placed o ≡ Nothing → not (found o) ≡ true
-nothing-there o h = ap (λ (p : Option ℕ). not (found p)) (was-nothing o h)
-
-pub at-there : (o : Option ℕ) (at : ℕ) → placed o ≡ At at → not (found o) ≡ false
-at-there o at h = ap (λ (p : Option ℕ). not (found p)) (was-at o at h)
+pub past-one : (n at : ℕ) (s : Text) → 0 < n → past n at s ≡ past (n - 1) (at + record-length (getD s at 0)) s
+unfolding past
+past-one n at s h = let one : n ≡ suc (n - 1) = omega arith in ap (λ (m : ℕ). past m at s) one
 
 -- ---- the front
 

@@ -1,38 +1,29 @@
--- A legal image with a record put back, added or taken out is the image of the table with that slot changed.
-use mathlib.Core.Path.{_≡_, refl, sym, ap, _∙_}
-use mathlib.Core.Bool.{true, false, not}
+-- A legal image, slot by slot: the number of a slot, where its record stands, and the image of the table with that slot
+-- changed.
+use mathlib.Core.Path.{_≡_, sym, ap, _∙_}
+use mathlib.Core.Bool.{true, false}
 use mathlib.Core.List.{List, [], _∷_, _++_, append-assoc}
 use mathlib.Core.Option.{some}
 use Prim.Native.Nat.{ℕ, suc, _+_, _≤_, _<_}
 use native.Mathlib.Numerals.{add-one}
 use native.Mathlib.Omega.{arith}
-use lib.ListN.{length, take, drop, getD, length-append, length-drop}
+use lib.ListN.{length, take, drop, getD, set, length-append, length-drop, length-set}
 use lib.Seq.{take-at, take-suc, length-take-le}
-use borrow.Author.Tests.{not-true}
 use Rattle.octets.specs.Text.{Text, same}
 use Rattle.octets.specs.Number.{copies}
-use Rattle.octets.specs.Part.{all-octets}
-use Rattle.octets.proofs.Comparing.{both, octets-part}
+use Rattle.octets.proofs.Comparing.{both}
 use Rattle.partner.specs.declared.Entry.{Entry}
 use Rattle.partner.specs.Entry.{empty}
-use Rattle.partner.specs.Legal as rule
 use Rattle.partner.specs.Record.{entry-bytes}
-use Rattle.partner.specs.Held.{Held}
-use Rattle.partner.proofs.Joining.{entry-held}
 use Rattle.partner.proofs.Naming.{filled-length}
-use Rattle.image.specs.Table.{Table, legal, identities, differs, apart, find, put, place, take-out, holding}
-use Rattle.image.specs.Image.{slot-bytes, slots-bytes, encode, decode, found}
-use Rattle.image.specs.Places.{seek, seek-free, place-of, free-place, entry-at, entry-there, splice, own-in}
-use Rattle.image.specs.Places.{with-entry, with-partner, without-partner}
-use Rattle.image.proofs.Entries.{Kept, empty-is, legal-full}
-use Rattle.image.proofs.Slots.{Stored, vacant, used, slots-legal-stored}
+use Rattle.partner.specs.Table.{Table, is-empty, identities, differs, apart, holding}
+use Rattle.image.specs.Image.{slot-bytes, slots-bytes, encode, decode}
+use Rattle.image.specs.Places.{own-in, seek-slot, slot-of, seek-free, free-slot, slot-place, splice, with-entry}
+use Rattle.image.proofs.Slots.{Stored, slots-legal-stored}
 use Rattle.image.proofs.Images.{Rules, rules, rules-legal, Decoded, decode-encode}
-use Rattle.image.proofs.Shifts.{moved, byte-shift, splice-shift}
-use Rattle.image.proofs.Spots.{there-shift, find-seek, Spot, spot, was-moved, found-moved}
-use Rattle.image.proofs.Edits.{length-put, spot-within, spot-kind, spot-real, splice-put, stored-put}
-use Rattle.image.proofs.Edits.{identities-put, differs-out, apart-out}
-use Rattle.image.proofs.Gaps.{Gap, gap, free-found, gap-within, placed, same-sym}
-use Rattle.image.proofs.Legality.{place-encode, free-encode}
+use Rattle.image.proofs.Shifts.{seek-shift, free-shift, past-shift}
+use Rattle.image.proofs.Spots.{number-of, vacancy, row-seek, row-free, row-past}
+use Rattle.image.proofs.Edits.{row-set, row-cut, identities-kept, differs-set, apart-set}
 
 -- ---- bytes replaced
 
@@ -57,31 +48,15 @@ entry-splice at e s k h =
     ap (λ (j : ℕ). take (at + 1) s ++ (entry-bytes e ++ drop j s)) i ∙ ap (λ (t : Text). t ++ r) a
     ∙ append-assoc (take at s) (2 ∷ []) r
 
-vacant-as : (at : ℕ) (s : Text) → without-partner at s ≡ splice at 157 (slot-bytes empty) s
-unfolding without-partner slot-bytes
-vacant-as at s = rw empty-is
-
-used-as : (e : Entry) → rule.legal e ≡ true → slot-bytes e ≡ 2 ∷ entry-bytes e
-unfolding slot-bytes
-used-as e h = rw (legal-full e h)
-
-used-splice : (at : ℕ) (e : Entry) (s : Text) → rule.legal e ≡ true → with-partner at e s ≡ splice at 1 (slot-bytes e) s
-unfolding with-partner
-used-splice at e s h = ap (λ (t : Text). splice at 1 t s) (sym (used-as e h))
-
-encoded : (t : Table) (slots : List Entry) → (1 ∷ t .own) ++ slots-bytes slots ≡ encode (holding t slots)
-unfolding encode
-encoded t slots = refl
-
-same-some : (l m : List Entry) → some l ≡ some m → l ≡ m
-same-some l m e = cc
-
--- what is read of octets fits its types
-pub entry-at-held : (at : ℕ) (s : Text) → all-octets s ≡ true → Held (entry-at at s)
-unfolding entry-at
-entry-at-held at s o = entry-held (take 156 (drop (at + 1) s)) (octets-part s (at + 1) 156 o)
-
 -- ---- a decoded image
+
+-- an image cut at the record of a slot: what is before it, the record, and what is behind it
+pub record Cut (s : Text) (t : Table) (k : ℕ) : Type 0 where
+  pub before : Text
+  pub behind : Text
+  pub place : length before ≡ slot-place k s
+  pub whole : s ≡ before ++ (slot-bytes (getD (t .slots) k empty) ++ behind)
+  pub changed : (x : Entry) → encode (holding t (set (t .slots) k x)) ≡ before ++ (slot-bytes x ++ behind)
 
 module _ (s : Text) (t : Table) (d : Decoded s t) where
   kept-rules : Rules t
@@ -97,141 +72,86 @@ module _ (s : Text) (t : Table) (d : Decoded s t) where
   pub own-there : own-in s ≡ t .own
   own-there = ap own-in split ∙ take-at (t .own) (slots-bytes (t .slots)) 16 own-16
 
-  place-here : (id : Text) → place-of id s ≡ moved 17 (seek (length (t .slots)) 0 id (slots-bytes (t .slots)))
-  place-here id = ap (place-of id) (d .text) ∙ place-encode t own-16 (kept-rules .slots-64) id
-
-  -- the record of a partner is found exactly where the table has the partner, and reads as its entry
-  pub find-place : (id : Text) → same (copies 16 0) id ≡ false → find id (t .slots) ≡ entry-there s (place-of id s)
-  find-place id z =
+  -- the numbers of slots
+  pub slot-there : (id : Text) → same (copies 16 0) id ≡ false → slot-of id s ≡ number-of id (t .slots)
+  unfolding slot-of
+  slot-there id real =
       let r = slots-bytes (t .slots) in
-      let o = seek (length (t .slots)) 0 id r in
-      find-seek id z (t .slots) (d .stored) ∙ sym (there-shift (1 ∷ t .own) r 17 (ap suc own-16) o)
-      ∙ ap (λ (u : Text). entry-there u (moved 17 o)) (sym split) ∙ ap (entry-there s) (sym (place-here id))
+      ap (seek-slot 64 0 17 id) split ∙ seek-shift (1 ∷ t .own) r 17 (ap suc own-16) 64 0 0 id
+      ∙ ap (λ (n : ℕ). seek-slot n 0 0 id r) (sym (kept-rules .slots-64))
+      ∙ omega (arith, row-seek id real (t .slots) (d .stored) 0)
 
-  -- where that is
-  pub place-spot : (id : Text) (at : ℕ) → place-of id s ≡ some at → (k : ℕ) × ((at ≡ 17 + k) × Spot id (t .slots) k)
-  place-spot id at p =
-      let m = was-moved 17 at (seek (length (t .slots)) 0 id (slots-bytes (t .slots))) (sym (place-here id) ∙ p) in
-      (m .0, (m .1 .1, spot id (t .slots) (m .0) (d .stored) (m .1 .0)))
-
-  image-long : length s ≡ 17 + length (slots-bytes (t .slots))
-  image-long = ap length split ∙ length-append (1 ∷ t .own) (slots-bytes (t .slots)) ∙ omega (arith, own-16)
-
-  pub place-within : (id : Text) (at : ℕ) → place-of id s ≡ some at → at + 157 ≤ length s
-  place-within id at p =
-      let m = place-spot id at p in
-      let e = m .1 .0 in
-      omega (arith, spot-within (m .1 .1), image-long)
-
-  place-kind : (id : Text) (at : ℕ) → place-of id s ≡ some at → getD s at 0 ≡ 2
-  place-kind id at p =
-      let m = place-spot id at p in
+  pub free-there : free-slot s ≡ vacancy (t .slots)
+  unfolding free-slot
+  free-there =
       let r = slots-bytes (t .slots) in
-      ap (λ (u : Text). getD u at 0) split ∙ ap (λ (i : ℕ). getD ((1 ∷ t .own) ++ r) i 0) (m .1 .0)
-      ∙ byte-shift (1 ∷ t .own) r 17 (ap suc own-16) (m .0) ∙ spot-kind (m .1 .1)
+      ap (seek-free 64 0 17) split ∙ free-shift (1 ∷ t .own) r 17 (ap suc own-16) 64 0 0
+      ∙ ap (λ (n : ℕ). seek-free n 0 0 r) (sym (kept-rules .slots-64))
+      ∙ omega (arith, row-free (t .slots) (d .stored) 0)
 
-  -- other slots, whose bytes these are
-  changed : (slots : List Entry) (k m : ℕ) (u : Text) → splice k m u (slots-bytes (t .slots)) ≡ slots-bytes slots
-      → length slots ≡ length (t .slots) → Stored slots → apart (t .own ∷ identities slots) ≡ true
-      → decode (splice (17 + k) m u s) ≡ some (holding t slots)
-  changed slots k m u e n st a =
-      let w : Rules (holding t slots) = record {
-        slots-64 = n ∙ kept-rules .slots-64;
-        own-filled = kept-rules .own-filled;
-        each-legal = slots-legal-stored slots st;
-        all-apart = a;
-      } in
-      ap decode (ap (splice (17 + k) m u) split
-      ∙ splice-shift (1 ∷ t .own) (slots-bytes (t .slots)) 17 (ap suc own-16) k m u
-      ∙ ap (λ (v : Text). (1 ∷ t .own) ++ v) e ∙ encoded t slots)
-      ∙ decode-encode (holding t slots) (rules-legal (holding t slots) w) st
+  -- where a slot's record stands
+  place-there : (k : ℕ) → k < 64 → slot-place k s ≡ 17 + length (slots-bytes (take k (t .slots)))
+  unfolding slot-place
+  place-there k h =
+      ap (slot-place k) split ∙ past-shift (1 ∷ t .own) (slots-bytes (t .slots)) 17 (ap suc own-16) k 0
+      ∙ ap (λ (n : ℕ). 17 + n) (row-past (t .slots) (d .stored) k (omega (arith, kept-rules .slots-64)))
 
-  -- an entry put back
-  pub put-back : (id : Text) (at : ℕ) (e : Entry) → place-of id s ≡ some at → rule.legal e ≡ true → Kept e
-      → e .identity .bytes ≡ id → decode (with-entry at e s) ≡ some (holding t (put id e (t .slots)))
-  put-back id at e p h k i =
-      let m = place-spot id at p in
-      let sp = m .1 .1 in
-      let real = spot-real sp in
-      let a : apart (t .own ∷ identities (put id e (t .slots))) ≡ true =
-      ap (λ (l : List Text). apart (t .own ∷ l)) (identities-put id real e h i sp) ∙ kept-rules .all-apart in
-      let w : splice (m .0) 157 (2 ∷ entry-bytes e) (slots-bytes (t .slots)) ≡ slots-bytes (put id e (t .slots)) =
-      ap (λ (u : Text). splice (m .0) 157 u (slots-bytes (t .slots))) (sym (used-as e h)) ∙ splice-put id real e sp in
-      ap decode (entry-splice at e s (place-kind id at p) (omega (arith, place-within id at p)))
-      ∙ ap (λ (j : ℕ). decode (splice j 157 (2 ∷ entry-bytes e) s)) (m .1 .0)
-      ∙ changed (put id e (t .slots)) (m .0) 157 (2 ∷ entry-bytes e) w (length-put id e (t .slots))
-      (stored-put id real e (λ l st. used h k st) sp) a
+  pub cut : (k : ℕ) → k < 64 → Cut s t k
+  unfolding encode
+  cut k h =
+      let n = kept-rules .slots-64 in
+      let w : k < length (t .slots) = omega arith in
+      let a : Text = 1 ∷ t .own in
+      let b : Text = slots-bytes (take k (t .slots)) in
+      let c : Text = slots-bytes (drop (suc k) (t .slots)) in
+      record {
+        before = a ++ b;
+        behind = c;
+        place = length-append a b ∙ omega (arith, own-16, place-there k h);
+        whole = split ∙ ap (λ (u : Text). a ++ u) (row-cut (t .slots) k w)
+            ∙ sym (append-assoc a b (slot-bytes (getD (t .slots) k empty) ++ c));
+        changed = λ x.
+            ap (λ (u : Text). a ++ u) (row-set (t .slots) k x w) ∙ sym (append-assoc a b (slot-bytes x ++ c));
+      }
 
-  pub put-size : (id : Text) (at : ℕ) (e : Entry) → place-of id s ≡ some at → Kept e
-      → length (with-entry at e s) ≡ length s
-  put-size id at e p k =
-      let w = place-within id at p in
-      let z = splice-size at 157 (2 ∷ entry-bytes e) s w in
-      let y : length (with-entry at e s) ≡ length (splice at 157 (2 ∷ entry-bytes e) s) =
-      ap length (entry-splice at e s (place-kind id at p) (omega arith)) in
-      omega (arith, k .size)
+  -- the length of the image with that slot changed
+  pub changed-size : (k : ℕ) → k < 64 → (x : Entry) → length (encode (holding t (set (t .slots) k x)))
+      + length (slot-bytes (getD (t .slots) k empty)) ≡ length s + length (slot-bytes x)
+  changed-size k h x =
+      let c = cut k h in
+      let e = getD (t .slots) k empty in
+      let a = ap length (c .whole) ∙ length-append (c .before) (slot-bytes e ++ c .behind) in
+      let b = ap length (c .changed x) ∙ length-append (c .before) (slot-bytes x ++ c .behind) in
+      omega (arith, length-append (slot-bytes e) (c .behind), length-append (slot-bytes x) (c .behind))
 
-  -- a partner taken out
-  pub take-away : (id : Text) (at : ℕ) → place-of id s ≡ some at
-      → decode (without-partner at s) ≡ some (holding t (take-out id (t .slots)))
-  take-away id at p =
-      let m = place-spot id at p in
-      let sp = m .1 .1 in
-      let real = spot-real sp in
-      let b = both (differs (t .own) (identities (t .slots))) (apart (identities (t .slots))) (kept-rules .all-apart) in
-      let x : differs (t .own) (identities (put id empty (t .slots))) ≡ true = differs-out id real (t .own) sp (b .0) in
-      let y : apart (identities (put id empty (t .slots))) ≡ true = apart-out id real sp (b .1) in
-      ap decode (vacant-as at s) ∙ ap (λ (j : ℕ). decode (splice j 157 (slot-bytes empty) s)) (m .1 .0)
-      ∙ changed (put id empty (t .slots)) (m .0) 157 (slot-bytes empty) (splice-put id real empty sp)
-      (length-put id empty (t .slots)) (stored-put id real empty (λ l st. vacant st) sp) (rw (x, y))
+  -- that image is read again, where the identities differ from each other and from ours
+  module _ (k : ℕ) (x : Entry) (st : Stored (set (t .slots) k x)) where
+    read-again : apart (t .own ∷ identities (set (t .slots) k x)) ≡ true
+        → decode (encode (holding t (set (t .slots) k x))) ≡ some (holding t (set (t .slots) k x))
+    read-again a =
+        let u : Table = holding t (set (t .slots) k x) in
+        let w : Rules u = record {
+          slots-64 = length-set (t .slots) k x ∙ kept-rules .slots-64;
+          own-filled = kept-rules .own-filled;
+          each-legal = slots-legal-stored (set (t .slots) k x) st;
+          all-apart = a;
+        } in
+        decode-encode u (rules-legal u w) st
 
-  pub take-size : (id : Text) (at : ℕ) → place-of id s ≡ some at → length (without-partner at s) + 156 ≡ length s
-  unfolding without-partner
-  take-size id at p = omega (arith, splice-size at 157 (0 ∷ []) s (place-within id at p))
+    -- an entry with the identity of its slot
+    pub kept-again : is-empty (getD (t .slots) k empty) ≡ false → is-empty x ≡ false
+        → x .identity .bytes ≡ getD (t .slots) k empty .identity .bytes
+        → decode (encode (holding t (set (t .slots) k x))) ≡ some (holding t (set (t .slots) k x))
+    kept-again e f i =
+        read-again
+        (ap (λ (l : List Text). apart (t .own ∷ l)) (identities-kept x (t .slots) k e f i) ∙ kept-rules .all-apart)
 
-  -- a partner added
-  free-here : free-place s ≡ moved 17 (seek-free (length (t .slots)) 0 (slots-bytes (t .slots)))
-  free-here = ap free-place (d .text) ∙ free-encode t own-16 (kept-rules .slots-64)
-
-  pub free-so : (e : Entry) → found (free-place s) ≡ found (place e (t .slots))
-  free-so e =
-      let o = seek-free (length (t .slots)) 0 (slots-bytes (t .slots)) in
-      ap found free-here ∙ found-moved 17 o ∙ free-found e (t .slots) (d .stored)
-
-  free-gap : (at : ℕ) → free-place s ≡ some at → (k : ℕ) × ((at ≡ 17 + k) × Gap (t .slots) k)
-  free-gap at p =
-      let m = was-moved 17 at (seek-free (length (t .slots)) 0 (slots-bytes (t .slots))) (sym free-here ∙ p) in
-      (m .0, (m .1 .1, gap (t .slots) (m .0) (d .stored) (m .1 .0)))
-
-  pub free-within : (at : ℕ) → free-place s ≡ some at → at < length s
-  free-within at p =
-      let m = free-gap at p in
-      let e = m .1 .0 in
-      omega (arith, gap-within (m .1 .1), image-long)
-
-  pub add-on : (at : ℕ) (e : Entry) (slots : List Entry) → free-place s ≡ some at → rule.legal e ≡ true → Kept e
-      → differs (e .identity .bytes) (t .own ∷ identities (t .slots)) ≡ true → place e (t .slots) ≡ some slots
-      → decode (with-partner at e s) ≡ some (holding t slots)
-  add-on at e slots p h k f q =
-      let m = free-gap at p in
-      let z = placed e h k (m .1 .1) in
-      let l = z .0 in
-      let pl = z .1 in
-      let i : l ≡ slots = same-some l slots (sym (pl .is-placed) ∙ q) in
-      let b = both (differs (t .own) (identities (t .slots))) (apart (identities (t .slots))) (kept-rules .all-apart) in
-      let c = both (not (same (t .own) (e .identity .bytes))) (differs (e .identity .bytes) (identities (t .slots))) f in
-      let g : same (e .identity .bytes) (t .own) ≡ false =
-      same-sym (t .own) (e .identity .bytes) (not-true (same (t .own) (e .identity .bytes)) (c .0)) in
-      let x : differs (t .own) (identities l) ≡ true = pl .still-differs (t .own) (b .0) g in
-      let y : apart (identities l) ≡ true = pl .still-apart (b .1) (c .1) in
-      ap decode (used-splice at e s h) ∙ ap (λ (j : ℕ). decode (splice j 1 (slot-bytes e) s)) (m .1 .0)
-      ∙ changed l (m .0) 1 (slot-bytes e) (pl .as-bytes) (pl .as-long) (pl .as-stored) (rw (x, y))
-      ∙ ap (λ (r : List Entry). some (holding t r)) i
-
-  pub add-size : (at : ℕ) (e : Entry) → free-place s ≡ some at → Kept e
-      → length (with-partner at e s) ≡ length s + 156
-  unfolding with-partner
-  add-size at e p k =
-      let w = free-within at p in
-      let z = splice-size at 1 (2 ∷ entry-bytes e) s (omega arith) in
-      omega (arith, k .size)
+    -- an empty slot, or an entry whose identity is new
+    pub new-again : (is-empty x ≡ false → differs (x .identity .bytes) (identities (t .slots)) ≡ true)
+        → (is-empty x ≡ false → same (x .identity .bytes) (t .own) ≡ false)
+        → decode (encode (holding t (set (t .slots) k x))) ≡ some (holding t (set (t .slots) k x))
+    new-again f g =
+        let b = both (differs (t .own) (identities (t .slots))) (apart (identities (t .slots))) (kept-rules .all-apart) in
+        let p : differs (t .own) (identities (set (t .slots) k x)) ≡ true = differs-set x (t .own) (t .slots) k (b .0) g in
+        let q : apart (identities (set (t .slots) k x)) ≡ true = apart-set x (t .slots) k (b .1) f in
+        read-again (rw (p, q))

@@ -1,20 +1,29 @@
 -- What is claimed of the stored image; proved as `claims` in proofs/Claims.antt.
 use mathlib.Core.Path.{_≡_}
-use mathlib.Core.Bool.{true}
+use mathlib.Core.Bool.{true, false}
 use mathlib.Core.List.{List, _∷_}
-use mathlib.Core.Option.{some}
+use mathlib.Core.Option.{none, some}
 use Prim.Native.Nat.{ℕ, _+_, _≤_, _<_}
-use lib.ListN.{length}
+use lib.ListN.{length, getD, set}
 use Rattle.octets.specs.Text.{Text}
 use Rattle.octets.specs.Part.{all-octets}
 use Rattle.partner.specs.declared.Name.{Name}
 use Rattle.partner.specs.declared.Entry.{Entry}
+use Rattle.partner.specs.Entry.{empty}
 use Rattle.partner.specs.Held.{Held}
 use Rattle.partner.specs.Legal as partner
-use Rattle.image.specs.Table.{Table, legal, identities, differs, find, put, place, take-out}
-use Rattle.image.specs.Table.{holding, started, AllHeld}
-use Rattle.image.specs.Image.{encode, decode, found}
-use Rattle.image.specs.Places.{place-of, free-place, entry-there, with-entry, with-partner, without-partner}
+use Rattle.partner.specs.Table.{Table, is-empty, legal, identities, differs, find, place}
+use Rattle.partner.specs.Table.{holding, started, AllHeld}
+use Rattle.image.specs.Image.{encode, decode}
+use Rattle.image.specs.Places.{slot-of, free-slot}
+use Rattle.image.specs.Results.{put-slot, added-slot, removed-slot}
+
+-- a slot of a table, and the table with other contents in that slot and every other slot as it was
+abbrev pub in-slot : ℕ → Table → Entry
+in-slot k t = getD (t .slots) k empty
+
+abbrev pub with-slot : ℕ → Entry → Table → Table
+with-slot k e t = holding t (set (t .slots) k e)
 
 pub record Claims : Type 0 where
   -- write then read gives the table back, slot by slot
@@ -29,25 +38,29 @@ pub record Claims : Type 0 where
   pub smallest-image : (s : Text) × ((t : Table) × ((decode s ≡ some t) × (length s ≡ 81)))
   pub start-is-legal : (own : Name) → partner.is-filled (own .bytes) ≡ true
       → decode (encode (started own)) ≡ some (started own)
-  -- a partner's record is found exactly where the table has the partner, lies whole in the image and reads as its entry
-  pub entry-found : (s : Text) (t : Table) (id : Text) → decode s ≡ some t → partner.is-filled id ≡ true
-      → find id (t .slots) ≡ entry-there s (place-of id s)
-  pub entry-within : (s : Text) (t : Table) (id : Text) (at : ℕ) → decode s ≡ some t → place-of id s ≡ some at
-      → at + 157 ≤ length s
+  -- a partner's slot is found exactly where the table has the partner, and holds its entry
+  pub slot-found : (s : Text) (t : Table) (id : Text) (e : Entry) → decode s ≡ some t → partner.is-filled id ≡ true
+      → find id (t .slots) ≡ some e → (slot-of id s < 64) × (in-slot (slot-of id s) t ≡ e)
+  pub slot-missed : (s : Text) (t : Table) (id : Text) → decode s ≡ some t → partner.is-filled id ≡ true
+      → find id (t .slots) ≡ none → slot-of id s ≡ 64
   -- an entry put back: that slot changed, every other as it was
-  pub entry-put-back : (s : Text) (t : Table) (id : Text) (at : ℕ) (e : Entry) → decode s ≡ some t
-      → place-of id s ≡ some at → partner.legal e ≡ true → Held e → e .identity .bytes ≡ id
-      → (decode (with-entry at e s) ≡ some (holding t (put id e (t .slots)))) × (length (with-entry at e s) ≡ length s)
-  -- an empty slot is found exactly where the table has one; a partner added there stands in the lowest
-  pub empty-slot-found : (s : Text) (t : Table) (e : Entry) → decode s ≡ some t
-      → found (free-place s) ≡ found (place e (t .slots))
-  pub empty-slot-within : (s : Text) (t : Table) (at : ℕ) → decode s ≡ some t → free-place s ≡ some at
-      → at < length s
-  pub partner-added : (s : Text) (t : Table) (at : ℕ) (e : Entry) (slots : List Entry) → decode s ≡ some t
-      → free-place s ≡ some at → partner.legal e ≡ true → Held e
-      → differs (e .identity .bytes) (t .own ∷ identities (t .slots)) ≡ true → place e (t .slots) ≡ some slots
-      → (decode (with-partner at e s) ≡ some (holding t slots)) × (length (with-partner at e s) ≡ length s + 156)
+  pub entry-put-back : (s : Text) (t : Table) (k : ℕ) (e : Entry) → decode s ≡ some t → k < 64
+      → is-empty (in-slot k t) ≡ false → partner.legal e ≡ true → Held e
+      → e .identity .bytes ≡ in-slot k t .identity .bytes
+      → (decode (put-slot k e s) ≡ some (with-slot k e t)) × (length (put-slot k e s) ≡ length s)
+  -- the lowest empty slot is found exactly where the table has one
+  pub empty-slot-found : (s : Text) (t : Table) (e : Entry) (slots : List Entry) → decode s ≡ some t
+      → place e (t .slots) ≡ some slots
+      → (free-slot s < 64) × (in-slot (free-slot s) t ≡ empty) × (set (t .slots) (free-slot s) e ≡ slots)
+  pub empty-slot-missed : (s : Text) (t : Table) (e : Entry) → decode s ≡ some t → place e (t .slots) ≡ none
+      → free-slot s ≡ 64
+  -- a partner added in an empty slot: that slot filled, every other as it was
+  pub partner-added : (s : Text) (t : Table) (k : ℕ) (e : Entry) → decode s ≡ some t → k < 64
+      → is-empty (in-slot k t) ≡ true → partner.legal e ≡ true → Held e
+      → differs (e .identity .bytes) (t .own ∷ identities (t .slots)) ≡ true
+      → (u : Text) × ((added-slot k e s ≡ some u)
+      × ((decode u ≡ some (with-slot k e t)) × (length u ≡ length s + 156)))
   -- a partner taken out: its slot empty, every other as it was
-  pub partner-removed : (s : Text) (t : Table) (id : Text) (at : ℕ) → decode s ≡ some t → place-of id s ≡ some at
-      → (decode (without-partner at s) ≡ some (holding t (take-out id (t .slots))))
-      × (length (without-partner at s) + 156 ≡ length s)
+  pub partner-removed : (s : Text) (t : Table) (k : ℕ) → decode s ≡ some t → k < 64 → is-empty (in-slot k t) ≡ false
+      → (u : Text) × ((removed-slot k s ≡ some u)
+      × ((decode u ≡ some (with-slot k empty t)) × (length u + 156 ≡ length s)))

@@ -12,7 +12,7 @@ use Rattle.octets.specs.Text.{Text, ascii}
 use Rattle.octets.specs.Number.{copies}
 use Rattle.partner.specs.declared.Entry.{Entry}
 use Rattle.partner.specs.Examples.{name, entry, top, L, no-set, zeros, whole, whole-bytes, slight}
-use Rattle.image.specs.Table.{Table, legal, find, put, place, take-out, started}
+use Rattle.partner.specs.Table.{Table, legal, find, put, place, take-out, started}
 use Rattle.image.specs.Image.{encode, decode}
 
 -- a slot of zeros, and n of them

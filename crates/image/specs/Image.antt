@@ -9,7 +9,7 @@ use Rattle.octets.specs.Text.{Text, same}
 use Rattle.partner.specs.declared.Entry.{Entry}
 use Rattle.partner.specs.Entry.{empty}
 use Rattle.partner.specs.Record.{entry-bytes, entry-in}
-use Rattle.image.specs.Table.{Table, is-empty, legal}
+use Rattle.partner.specs.Table.{Table, is-empty, legal}
 
 -- ---- kinds: 0 an empty slot, 1 our identity, 2 a partner
 

@@ -1,4 +1,3 @@
-pub mod Table
 pub mod Image
 pub mod Places
 pub mod Pass

@@ -1,13 +1,13 @@
 -- One pass over an image: what is asked of its front and of each record where it stands. An image is legal exactly
 -- where this holds throughout and it ends behind the 64th record (proofs/Legality.antt).
-use mathlib.Core.Bool.{Bool, cond, not, _&&_}
+use mathlib.Core.Bool.{Bool, cond, _&&_}
 use Prim.Native.Nat.{ℕ, _+_}
 use lib.Dec.{eqb, ltb, leb}
 use lib.ListN.{length, take, drop, getD}
 use Rattle.octets.specs.Text.{Text}
 use Rattle.partner.specs.Legal as rule
-use Rattle.image.specs.Image.{vacant, ours, partner, found}
-use Rattle.image.specs.Places.{own-in, seek, entry-at}
+use Rattle.image.specs.Image.{vacant, ours, partner}
+use Rattle.image.specs.Places.{own-in, seek-slot, entry-at}
 
 -- the identity of the record at a place
 abbrev pub identity-at : ℕ → Text → Text
@@ -15,7 +15,7 @@ identity-at at image = take 16 (drop (at + 1) image)
 
 -- none of n records from a place on has that identity
 abbrev pub apart-from : ℕ → ℕ → Text → Text → Bool
-apart-from n at id image = not (found (seek n at id image))
+apart-from n at id image = eqb (seek-slot n 0 at id image) n
 
 -- the front: kind 1, a filled identity, and no partner who has it
 unfoldable pub front-legal : Text → Bool

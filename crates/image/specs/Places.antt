@@ -1,7 +1,7 @@
--- Where a record stands in an image, and an image with a record changed, added or taken out, byte by byte.
+-- The number of a slot and where its record stands in an image; an image with a record changed, added or taken out, byte
+-- by byte.
 use mathlib.Core.Bool.{Bool, cond, _&&_}
 use mathlib.Core.List.{[], _∷_, _++_}
-use mathlib.Core.Option.{Option, none, some}
 use Prim.Native.Nat.{ℕ, zero, suc, _+_}
 use lib.Dec.{eqb}
 use lib.ListN.{take, drop, getD}
@@ -18,34 +18,38 @@ own-in image = take 16 (drop 1 image)
 abbrev pub is-partner : ℕ → Text → Text → Bool
 is-partner at id image = eqb (getD image at 0) partner && same (take 16 (drop (at + 1) image)) id
 
--- of n records from a place on: where that of a partner stands
-unfoldable pub seek : ℕ → ℕ → Text → Text → Option ℕ
-seek zero at id image = none
-seek (suc n) at id image =
-    cond (is-partner at id image) (some at)
-    (seek n (at + record-length (getD image at 0)) id image)
+-- of n records from a place on, the first of them the k-th: the number of that of a partner, and of the one behind them
+-- all where there is none
+unfoldable pub seek-slot : ℕ → ℕ → ℕ → Text → Text → ℕ
+seek-slot zero k at id image = k
+seek-slot (suc n) k at id image =
+    cond (is-partner at id image) k (seek-slot n (k + 1) (at + record-length (getD image at 0)) id image)
 
--- the partner's record among the 64
-unfoldable pub place-of : Text → Text → Option ℕ
-place-of id image = seek 64 17 id image
+-- the partner's slot among the 64
+unfoldable pub slot-of : Text → Text → ℕ
+slot-of id image = seek-slot 64 0 17 id image
 
--- of n records from a place on: where the lowest empty slot stands
-unfoldable pub seek-free : ℕ → ℕ → Text → Option ℕ
-seek-free zero at image = none
-seek-free (suc n) at image =
-    cond (eqb (getD image at 0) vacant) (some at) (seek-free n (at + record-length (getD image at 0)) image)
+-- likewise the lowest empty slot
+unfoldable pub seek-free : ℕ → ℕ → ℕ → Text → ℕ
+seek-free zero k at image = k
+seek-free (suc n) k at image =
+    cond (eqb (getD image at 0) vacant) k (seek-free n (k + 1) (at + record-length (getD image at 0)) image)
 
-unfoldable pub free-place : Text → Option ℕ
-free-place image = seek-free 64 17 image
+unfoldable pub free-slot : Text → ℕ
+free-slot image = seek-free 64 0 17 image
+
+-- n records on from a place
+unfoldable pub past : ℕ → ℕ → Text → ℕ
+past zero at image = at
+past (suc n) at image = past n (at + record-length (getD image at 0)) image
+
+-- where the record of a slot stands
+unfoldable pub slot-place : ℕ → Text → ℕ
+slot-place k image = past k 17 image
 
 -- the entry of the record at a place
 unfoldable pub entry-at : ℕ → Text → Entry
 entry-at at image = entry-in (take 156 (drop (at + 1) image))
-
--- and of the place that was found, if any
-abbrev pub entry-there : Text → Option ℕ → Option Entry
-entry-there image none = none
-entry-there image (some at) = some (entry-at at image)
 
 -- k bytes of an image from a place on replaced by a text
 unfoldable pub splice : ℕ → ℕ → Text → Text → Text

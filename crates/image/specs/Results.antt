@@ -1,4 +1,4 @@
--- What the functions over an image give: a place or none, and an image in a lent buffer.
+-- What the functions over an image give: an image with a slot changed, in place or in a lent buffer.
 use mathlib.Core.Bool.{cond}
 use mathlib.Core.List.{_++_}
 use mathlib.Core.Option.{Option, none, some}
@@ -7,14 +7,7 @@ use lib.Dec.{ltb, leb}
 use lib.ListN.{length, drop}
 use Rattle.octets.specs.Text.{Text}
 use Rattle.partner.specs.declared.Entry.{Entry}
-use Rattle.image.specs.declared.Place.{Place}
-use Rattle.image.specs.declared.Place.the-variants.{At, Nothing}
-use Rattle.image.specs.Places.{with-entry, with-partner, without-partner}
-
--- a place or nothing
-abbrev pub placed : Option ℕ → Place
-placed none = Nothing
-placed (some at) = At at
+use Rattle.image.specs.Places.{slot-place, with-entry, with-partner, without-partner}
 
 -- an entry put back, where a partner's record lies whole in the image at that place; else the image as it was
 unfoldable pub put-back : ℕ → Entry → Text → Text
@@ -26,6 +19,16 @@ added at e image = cond (ltb at (length image)) (some (with-partner at e image))
 
 unfoldable pub removed : ℕ → Text → Option Text
 removed at image = cond (leb (at + 157) (length image)) (some (without-partner at image)) none
+
+-- the same by the number of a slot, of which there are 64
+unfoldable pub put-slot : ℕ → Entry → Text → Text
+put-slot k e image = cond (ltb k 64) (put-back (slot-place k image) e image) image
+
+unfoldable pub added-slot : ℕ → Entry → Text → Option Text
+added-slot k e image = cond (ltb k 64) (added (slot-place k image) e image) none
+
+unfoldable pub removed-slot : ℕ → Text → Option Text
+removed-slot k image = cond (ltb k 64) (removed (slot-place k image) image) none
 
 -- an image over the front of a lent buffer, and its length; where there is none, or no room, the buffer as it was and 0
 unfoldable pub delivered : Option Text → Text → Text

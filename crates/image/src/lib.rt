@@ -1,13 +1,12 @@
-// The stored image: whether it is legal, where a partner's record or an empty slot stands, and an image with a record
-// read, put back, added or taken out. Records are found by their kinds; one function gives their lengths.
+// The stored image: whether it is legal, the number of a partner's slot or of an empty one, the entry of a slot, and an
+// image with a slot changed, filled or emptied.
 ghost use mathlib.Core.Path.{_≡_};
-ghost use mathlib.Core.List.{_∷_};
 ghost use mathlib.Core.Option.{some};
-ghost use Prim.Native.Nat.{_+_, _*_, _<_, _≤_, min};
-ghost use lib.ListN.{length, take, drop, getD};
+ghost use Prim.Native.Nat.{_+_, _*_, _≤_};
+ghost use lib.ListN.{length, drop, getD};
 ghost use Rattle.octets.specs.Wrote.{Wrote};
-ghost use Rattle.partner.specs.Record.{entry-bytes};
-ghost use Rattle.image.specs.Table as tables;
+ghost use Rattle.partner.specs.Entry.{empty};
+ghost use Rattle.partner.specs.Table as tables;
 ghost use Rattle.image.specs.Image as images;
 ghost use Rattle.image.specs.Places as places;
 ghost use Rattle.image.specs.Pass as pass;
@@ -15,119 +14,72 @@ ghost use Rattle.image.specs.Results as results;
 use partner::Entry;
 use partner::Name;
 
+mod records;
+
 // The front's length, and how many records follow it.
 const FRONT: usize = 17;
 
 const SLOTS: usize = 64;
 
-// Where a record stands, or nothing.
-pub enum Place {
-    At(usize),
-    Nothing,
-}
-
-// ---- records
-
-// The length of a record by its kind: a kind that is added later is one case more here.
-pub fn record_length(kind: u8) -> usize
-    ensures { λ r. ⌜ r ≡ images.record-length kind ⌝ }
-{
-    if kind == 2 { 157 } else { 1 }
-}
-
-// The smaller of the two.
-fn smaller(a: usize, b: usize) -> usize
-    ensures { λ r. ⌜ r ≡ min a b ⌝ }
-{
-    if a <= b { a } else { b }
-}
-
-// The byte at a place, 0 past the end.
-pub fn byte_at(image: &[u8], at: usize) -> u8
-    ensures { λ r. ⌜ r ≡ getD (now (image .entry)) at 0 ⌝ }
-{
-    if at < image.len() { image[at] } else { 0 }
-}
-
-// The k bytes from a place on, as many as there are.
-fn part(image: &[u8], at: usize, k: usize) -> &[u8]
-    ensures { λ r. ⌜ now r ≡ take k (drop at (now (image .entry))) ⌝ }
-{
-    let from = smaller(at, image.len());
-    let count = smaller(k, image.len() - from);
-    let to = from + count;
-    &image[from..to]
-}
-
-// The entry of the record at a place.
-pub fn entry_at(image: &[u8], at: usize) -> Entry
-    ensures { λ r. ⌜ r ≡ places.entry-at at (now (image .entry)) ⌝ }
-{
-    if at < image.len() {
-        partner::entry_in(part(image, at + 1, 156))
-    } else {
-        partner::entry_in(part(image, at, 156))
-    }
-}
-
 // Our own identity, filled with blanks.
 pub fn own_identity(image: &[u8]) -> &[u8]
     ensures { λ r. ⌜ now r ≡ places.own-in (now (image .entry)) ⌝ }
 {
-    part(image, 1, 16)
+    records::part(image, 1, 16)
 }
 
-// ---- places
+// ---- slots
 
-// Whether the record at a place is the partner's with that identity.
-fn is_partner(image: &[u8], at: usize, identity: &[u8]) -> bool
-    ensures { λ r. ⌜ r ≡ places.is-partner at (now (identity .entry)) (now (image .entry)) ⌝ }
+// The number of a partner's slot by its identity, filled with blanks; 64 where there is none.
+pub fn slot_of(image: &[u8], identity: &[u8]) -> usize
+    ensures { λ r. ⌜ r ≡ places.slot-of (now (identity .entry)) (now (image .entry)) ⌝ }
 {
-    if byte_at(image, at) != 2 {
-        return false;
-    }
-    octets::same(part(image, at + 1, 16), identity)
+    records::seek(image, identity, FRONT, SLOTS)
 }
 
-// Of `count` records from a place on: where the partner's with that identity stands.
-fn seek(image: &[u8], identity: &[u8], from: usize, count: usize) -> Place
-    requires { ⌜ from + 157 * count ≤ 10_065 ⌝ }
-    ensures { λ r. ⌜ r ≡ results.placed (places.seek count from (now (identity .entry)) (now (image .entry))) ⌝ }
-{
-    let mut at = from;
-    let mut left = count;
-    while 0 < left {
-        if is_partner(image, at, identity) {
-            return Place::At(at);
-        }
-        at += record_length(byte_at(image, at));
-        left -= 1;
-    }
-    Place::Nothing
-}
-
-// The place of a partner's record by its identity, filled with blanks.
-pub fn place_of(image: &[u8], identity: &[u8]) -> Place
-    ensures { λ r. ⌜ r ≡ results.placed (places.place-of (now (identity .entry)) (now (image .entry))) ⌝ }
-{
-    seek(image, identity, FRONT, SLOTS)
-}
-
-// The place of the lowest empty slot.
-pub fn free_place(image: &[u8]) -> Place
-    ensures { λ r. ⌜ r ≡ results.placed (places.free-place (now (image .entry))) ⌝ }
+// The number of the lowest empty slot; 64 where there is none.
+pub fn free_slot(image: &[u8]) -> usize
+    ensures { λ r. ⌜ r ≡ places.free-slot (now (image .entry)) ⌝ }
 {
     let mut at = FRONT;
-    let mut left = SLOTS;
-    while 0 < left {
-        let here = byte_at(image, at);
+    let mut slot = 0;
+    while slot < SLOTS {
+        let here = records::byte_at(image, at);
         if here == 0 {
-            return Place::At(at);
+            return slot;
         }
-        at += record_length(here);
+        at += records::record_length(here);
+        slot += 1;
+    }
+    slot
+}
+
+// Where the record of a slot stands.
+fn slot_place(image: &[u8], slot: usize) -> usize
+    requires { ⌜ slot ≤ 64 ⌝ }
+    ensures { λ r. ⌜ r ≡ places.slot-place slot (now (image .entry)) ⌝ }
+{
+    let mut at = FRONT;
+    let mut left = slot;
+    while 0 < left {
+        at += records::record_length(records::byte_at(image, at));
         left -= 1;
     }
-    Place::Nothing
+    at
+}
+
+// The entry of a slot, taken at the image's word; past the 64th an empty one.
+pub fn slot(image: &[u8], slot: usize) -> Entry
+    ensures { λ r. ⌜ r ≡ getD (images.slots-in 64 (drop 17 (now (image .entry)))) slot empty ⌝ }
+{
+    if SLOTS <= slot {
+        return partner::empty();
+    }
+    let at = slot_place(image, slot);
+    if records::byte_at(image, at) == 2 {
+        return records::entry_at(image, at);
+    }
+    partner::empty()
 }
 
 // ---- legal
@@ -137,18 +89,14 @@ fn is_apart(image: &[u8], identity: &[u8], from: usize, count: usize) -> bool
     requires { ⌜ from + 157 * count ≤ 10_065 ⌝ }
     ensures { λ r. ⌜ r ≡ pass.apart-from count from (now (identity .entry)) (now (image .entry)) ⌝ }
 {
-    if let Place::Nothing = seek(image, identity, from, count) {
-        true
-    } else {
-        false
-    }
+    records::seek(image, identity, from, count) == count
 }
 
 // Whether the front is: kind 1, and our identity, filled, which no partner has.
 fn front_legal(image: &[u8]) -> bool
     ensures { λ r. ⌜ r ≡ pass.front-legal (now (image .entry)) ⌝ }
 {
-    if byte_at(image, 0) != 1 {
+    if records::byte_at(image, 0) != 1 {
         return false;
     }
     let own = own_identity(image);
@@ -160,7 +108,7 @@ fn record_legal(image: &[u8], at: usize, left: usize) -> bool
     requires { ⌜ at + 157 + 157 * left ≤ 10_065 ⌝ }
     ensures { λ r. ⌜ r ≡ pass.record-legal left at (now (image .entry)) ⌝ }
 {
-    let kind = byte_at(image, at);
+    let kind = records::byte_at(image, at);
     if kind == 0 {
         return at < image.len();
     }
@@ -170,7 +118,8 @@ fn record_legal(image: &[u8], at: usize, left: usize) -> bool
     if image.len() < at + 157 {
         return false;
     }
-    partner::legal(entry_at(image, at)) && is_apart(image, part(image, at + 1, 16), at + 157, left)
+    partner::legal(records::entry_at(image, at))
+        && is_apart(image, records::part(image, at + 1, 16), at + 157, left)
 }
 
 // Whether the image is that of a legal table.
@@ -187,84 +136,43 @@ pub fn legal(image: &[u8]) -> bool
         if !record_legal(image, at, left) {
             return false;
         }
-        at += record_length(byte_at(image, at));
+        at += records::record_length(records::byte_at(image, at));
     }
     at == image.len()
 }
 
-// ---- images with a record changed
+// ---- images with a slot changed
 
-// An entry put back in its place.
-pub fn put_at(image: &mut [u8], at: usize, e: Entry)
-    ensures { λ r. ⌜ now (image .exit) ≡ results.put-back at e (now (image .entry)) ⌝ }
+// An entry put back in its slot; nothing past the 64th.
+pub fn put_slot(image: &mut [u8], slot: usize, e: Entry)
+    ensures { λ r. ⌜ now (image .exit) ≡ results.put-slot slot e (now (image .entry)) ⌝ }
 {
-    if at < image.len() {
-        let body = at + 1;
-        partner::put_entry(&mut image[body..], e);
+    if slot < SLOTS {
+        let at = slot_place(image, slot);
+        records::put_at(image, at, e);
     }
 }
 
-// A partner's record, its kind and its body: 157 bytes.
-fn put_partner(rest: &mut [u8], e: Entry) -> usize
-    requires { ⌜ 157 ≤ length (now rest) ⌝ }
-    ensures { λ r. ⌜ Wrote (images.partner ∷ entry-bytes e) (now (rest .entry)) (now (rest .exit)) r ⌝ }
-    ensures { λ r. ⌜ r ≡ 157 ⌝ }
+// The image with a partner added in an empty slot, in `out`; its length, 0 past the 64th or where there is no room.
+pub fn load_slot(image: &[u8], slot: usize, e: Entry, out: &mut [u8]) -> usize
+    ensures { λ r. ⌜ now (out .exit) ≡ results.delivered (results.added-slot slot e (now (image .entry))) (now (out .entry)) ⌝ }
+    ensures { λ r. ⌜ r ≡ results.size-delivered (results.added-slot slot e (now (image .entry))) (now (out .entry)) ⌝ }
 {
-    let a = octets::fill(rest, 1, 2);
-    a + partner::put_entry(&mut rest[a..], e)
+    if SLOTS <= slot {
+        return 0;
+    }
+    records::load_at(image, slot_place(image, slot), e, out)
 }
 
-// The image with a partner in the empty slot at a place.
-fn put_added(out: &mut [u8], image: &[u8], at: usize, e: Entry) -> usize
-    requires { ⌜ (at < length (now image)) × (length (now image) + 156 ≤ length (now out)) ⌝ }
-    ensures { λ r. ⌜ Wrote (places.with-partner at e (now (image .entry))) (now (out .entry)) (now (out .exit)) r ⌝ }
+// The image with a partner's slot emptied, in `out`; its length, 0 past the 64th or where there is no room.
+pub fn remove_slot(image: &[u8], slot: usize, out: &mut [u8]) -> usize
+    ensures { λ r. ⌜ now (out .exit) ≡ results.delivered (results.removed-slot slot (now (image .entry))) (now (out .entry)) ⌝ }
+    ensures { λ r. ⌜ r ≡ results.size-delivered (results.removed-slot slot (now (image .entry))) (now (out .entry)) ⌝ }
 {
-    let a = octets::copy(out, &image[..at]);
-    let b = a + put_partner(&mut out[a..], e);
-    let from = at + 1;
-    b + octets::copy(&mut out[b..], &image[from..])
-}
-
-// The image with a partner added in the empty slot at a place, in `out`; its length, 0 where there is no room for it.
-pub fn load_at(image: &[u8], at: usize, e: Entry, out: &mut [u8]) -> usize
-    ensures { λ r. ⌜ now (out .exit) ≡ results.delivered (results.added at e (now (image .entry))) (now (out .entry)) ⌝ }
-    ensures { λ r. ⌜ r ≡ results.size-delivered (results.added at e (now (image .entry))) (now (out .entry)) ⌝ }
-{
-    if image.len() <= at {
+    if SLOTS <= slot {
         return 0;
     }
-    if out.len() < image.len() + 156 {
-        return 0;
-    }
-    put_added(out, image, at, e)
-}
-
-// The image with an empty slot in place of a partner's record.
-fn put_removed(out: &mut [u8], image: &[u8], at: usize) -> usize
-    requires { ⌜ (at + 157 ≤ length (now image)) × (length (now image) ≤ length (now out) + 156) ⌝ }
-    ensures { λ r. ⌜ Wrote (places.without-partner at (now (image .entry))) (now (out .entry)) (now (out .exit)) r ⌝ }
-{
-    let a = octets::copy(out, &image[..at]);
-    let b = a + octets::fill(&mut out[a..], 1, 0);
-    let from = at + 157;
-    b + octets::copy(&mut out[b..], &image[from..])
-}
-
-// The image with a partner's record taken out, in `out`; its length, 0 where there is no room for it.
-pub fn remove_at(image: &[u8], at: usize, out: &mut [u8]) -> usize
-    ensures { λ r. ⌜ now (out .exit) ≡ results.delivered (results.removed at (now (image .entry))) (now (out .entry)) ⌝ }
-    ensures { λ r. ⌜ r ≡ results.size-delivered (results.removed at (now (image .entry))) (now (out .entry)) ⌝ }
-{
-    if image.len() < 157 {
-        return 0;
-    }
-    if image.len() - 157 < at {
-        return 0;
-    }
-    if out.len() < image.len() - 156 {
-        return 0;
-    }
-    put_removed(out, image, at)
+    records::remove_at(image, slot_place(image, slot), out)
 }
 
 // Our identity and 64 empty slots: 81 bytes.

@@ -17,11 +17,11 @@ use Rattle.partner.specs.declared.Entry.{Entry}
 use Rattle.partner.specs.Entry.{filled}
 use Rattle.partner.specs.Legal as entry
 use Rattle.partner.proofs.Naming.{filled-filled, filled-same}
-use Rattle.image.specs.Table.{Table, legal, put}
+use Rattle.partner.specs.Table.{Table, legal, put}
 use Rattle.calls.specs.Words.{if_then_else_}
 use Rattle.calls.specs.Outcome.{Turn}
-use Rattle.calls.specs.Calls.{Call, receive, build-ksm, build-rsi, give-up, load, remove, ask, After, refuse}
-use Rattle.image.specs.Table.{holding}
+use Rattle.calls.specs.Calls.{Call, receive, about, load, After, refuse}
+use Rattle.partner.specs.Table.{holding}
 use Rattle.calls.specs.Calls.{entry-of, turned, at-partner}
 use Rattle.calls.specs.Claims.{Carries, Row}
 use Rattle.calls.proofs.Slots.{row-put}
@@ -53,12 +53,8 @@ pub data Local (name : Text) (top : Top) (us other : Text) (l : List Text) (t : 
 counted-none : (other : Text) (c : Call) (n : ℕ) → eqb n 0 ≡ false → counted other c n ≡ []
 unfolding counted if_then_else_
 counted-none other (receive room text) n h = rw h
-counted-none other (build-ksm room to q) n h = refl
-counted-none other (build-rsi room to s) n h = refl
-counted-none other (give-up to) n h = refl
+counted-none other (about to a) n h = refl
 counted-none other (load to key-name key) n h = refl
-counted-none other (remove to) n h = refl
-counted-none other (ask to) n h = refl
 
 module _ (name : Text) (top : Top) (us other : Text) (l : List Text) (t : Table) where
   -- a refusal

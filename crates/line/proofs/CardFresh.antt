@@ -15,10 +15,10 @@ use Rattle.partner.specs.declared.Entry.{Entry}
 use Rattle.partner.specs.Entry.{empty, filled, name-of}
 use Rattle.partner.specs.Legal.{is-filled}
 use Rattle.partner.specs.Changes.{loaded}
-use Rattle.image.specs.Table.{Table, legal, identities, differs, find, place}
+use Rattle.partner.specs.Table.{Table, legal, identities, differs, find, place}
 use Rattle.calls.specs.Words.{if_then_else_}
 use Rattle.calls.specs.Calls.{load, After, refuse, entry-of, placed, loading, perform, run, start}
-use Rattle.image.specs.Table.{holding, empties}
+use Rattle.partner.specs.Table.{holding, empties}
 use Rattle.calls.proofs.Tests.{by-case}
 use Rattle.partner.proofs.Naming.{bare-filled, filled-filled}
 use Rattle.calls.proofs.Slots.{empty-is, empty-nobody}

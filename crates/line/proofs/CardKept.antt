@@ -11,7 +11,7 @@ use Rattle.keying.specs.declared.Top.{Top}
 use Rattle.partner.specs.declared.Entry.{Entry}
 use Rattle.partner.specs.Entry.{name-of, top-of}
 use Rattle.partner.specs.Changes.{loaded}
-use Rattle.image.specs.Table.{Table}
+use Rattle.partner.specs.Table.{Table}
 use Rattle.calls.specs.Calls.{Call, entry-of, run}
 use Rattle.line.specs.Line.{texts, counted, Allowed, entry-for, Fresh}
 use Rattle.line.proofs.CoreEnds

@@ -5,7 +5,7 @@ use mathlib.Core.List.{List, [], _∷_}
 use mathlib.Core.Logic.{_≢_}
 use mathlib.Core.Option.{Option, none, some}
 use Prim.Native.Nat.{ℕ}
-use lib.Dec.{eqb, ltb}
+use lib.Dec.{eqb}
 use borrow.Author.Tests.{not-false}
 use Rattle.octets.specs.Text.{Text, same, is-name}
 use Rattle.octets.specs.Part.{bare}
@@ -17,13 +17,13 @@ use Rattle.csm.proofs.MessageLaws.{read-back, legal-parts}
 use Rattle.partner.specs.declared.Entry.{Entry}
 use Rattle.partner.specs.Entry.{empty, filled, name-of}
 use Rattle.partner.specs.Changes.{loaded}
-use Rattle.image.specs.Table.{Table, legal, identities, differs, put, place}
+use Rattle.partner.specs.Table.{Table, legal, identities, differs, put, place}
 use Rattle.calls.specs.Words.{if_then_else_}
 use Rattle.calls.specs.Receive as by-class
 use Rattle.calls.specs.Build as building
-use Rattle.calls.specs.Calls.{Call, receive, build-ksm, build-rsi, give-up, load, remove, ask, After, refuse}
-use Rattle.image.specs.Table.{holding}
-use Rattle.calls.specs.Calls.{entry-of, turned, at-partner, receiving, placed, loading, emptied, told, perform, run}
+use Rattle.calls.specs.Calls.{Act, build-ksm, build-rsi, give-up, remove, ask, Call, receive, about, load, After, refuse}
+use Rattle.partner.specs.Table.{holding}
+use Rattle.calls.specs.Calls.{entry-of, turned, at-partner, receiving, placed, loading, emptied, told, short, no-room, acting, perform, run}
 use Rattle.calls.specs.Claims.{Row}
 use Rattle.calls.proofs.Tests.{by-case}
 use Rattle.partner.proofs.Naming.{filled-filled}
@@ -144,14 +144,14 @@ module _ (name : Text) (top : Top) (us other : Text) (l : List Text) (t : Table)
 
     -- ---- remove
 
-    remove-local : (id : Text) → Asked (remove id) (at-partner t id emptied)
-        → Fits (remove id) (at-partner t id emptied)
+    remove-local : (id : Text) → Asked (about id remove) (at-partner t id emptied)
+        → Fits (about id remove) (at-partner t id emptied)
     unfolding Allowed at-partner counted
     remove-local id = go (entry-of id t) refl
       where
-        go : (o : Option Entry) → entry-of id t ≡ o → Asked (remove id) (turned t id emptied o)
-            → Fits (remove id) (turned t id emptied o)
-        go none h may = idle name top us other l t (remove id) 3 refl
+        go : (o : Option Entry) → entry-of id t ≡ o → Asked (about id remove) (turned t id emptied o)
+            → Fits (about id remove) (turned t id emptied o)
+        go none h may = idle name top us other l t (about id remove) 3 refl
         go (some e) h may =
             let named : is-name id ≡ true = entry-held t id e h .name in
             elsewhere refl
@@ -159,35 +159,43 @@ module _ (name : Text) (top : Top) (us other : Text) (l : List Text) (t : Table)
             (row-empty (filled id) (t .slots)))
             (λ x i. absurd (no-texts [] x refl i)) refl
 
+    -- ---- every act
+
+    act-local : (a : Act) (id : Text) → Asked (about id a) (at-partner t id (acting (bare (t .own)) a))
+        → Fits (about id a) (at-partner t id (acting (bare (t .own)) a))
+    unfolding Allowed counted
+    act-local (build-ksm room q) id may =
+        entry-local name top us other l t ours fine (about id (build-ksm room q)) id
+        (λ e. building.build-ksm (bare (t .own)) e q) (λ x. [])
+        (λ e lawful them.
+        rw ours (build-ksm-event us e _ (us-named name top us other l t ours fine) lawful q may))
+        (λ io x. refl) (λ away n. refl)
+    act-local (build-rsi room s) id may =
+        entry-local name top us other l t ours fine (about id (build-rsi room s)) id
+        (λ e. building.build-rsi (bare (t .own)) e s) (λ x. [])
+        (λ e lawful them. rw ours (build-rsi-event us e _ (us-named name top us other l t ours fine) lawful s))
+        (λ io x. refl) (λ away n. refl)
+    act-local give-up id may =
+        entry-local name top us other l t ours fine (about id give-up) id building.give-up (λ x. [])
+        (λ e lawful them. give-up-event us e _ (us-named name top us other l t ours fine) lawful)
+        (λ io x. refl) (λ away n. refl)
+    act-local remove id may = remove-local id may
+    act-local ask id may =
+        entry-local name top us other l t ours fine (about id ask) id told (λ x. []) (λ e lawful them. silent _ refl)
+        (λ io x. refl) (λ away n. refl)
+
     -- ---- every call in a legal table
 
     perform-local : (c : Call) → Asked c (perform t c) → Fits c (perform t c)
     unfolding perform Allowed counted
     perform-local (receive room text) may =
-        by-case (Fits (receive room text)) (ltb room 256) (refuse t 6) (receiving t text (read text))
+        by-case (Fits (receive room text)) (short room) (refuse t 6) (receiving t text (read text))
         (λ p. idle name top us other l t (receive room text) 6 refl) (λ p. receive-local room text may)
-    perform-local (build-ksm room id q) may =
-        by-case (Fits (build-ksm room id q)) _ _ _ (λ p. idle name top us other l t (build-ksm room id q) 6 refl)
-        (λ p. entry-local name top us other l t ours fine (build-ksm room id q) id
-        (λ e. building.build-ksm (bare (t .own)) e q) (λ x. [])
-        (λ e lawful them.
-        rw ours (build-ksm-event us e _ (us-named name top us other l t ours fine) lawful q may))
-        (λ io x. refl) (λ away n. refl))
-    perform-local (build-rsi room id s) may =
-        by-case (Fits (build-rsi room id s)) _ _ _ (λ p. idle name top us other l t (build-rsi room id s) 6 refl)
-        (λ p. entry-local name top us other l t ours fine (build-rsi room id s) id
-        (λ e. building.build-rsi (bare (t .own)) e s) (λ x. [])
-        (λ e lawful them. rw ours (build-rsi-event us e _ (us-named name top us other l t ours fine) lawful s))
-        (λ io x. refl) (λ away n. refl))
-    perform-local (give-up id) may =
-        entry-local name top us other l t ours fine (give-up id) id building.give-up (λ x. [])
-        (λ e lawful them. give-up-event us e _ (us-named name top us other l t ours fine) lawful)
-        (λ io x. refl) (λ away n. refl)
+    perform-local (about id a) may =
+        by-case (λ (y : After). Asked (about id a) y → Fits (about id a) y) (no-room a) (refuse t 6)
+        (at-partner t id (acting (bare (t .own)) a)) (λ p m. idle name top us other l t (about id a) 6 refl)
+        (λ p. act-local a id) may
     perform-local (load id key-name key) may = load-local id key-name key may
-    perform-local (remove id) may = remove-local id may
-    perform-local (ask id) may =
-        entry-local name top us other l t ours fine (ask id) id told (λ x. []) (λ e lawful them. silent _ refl)
-        (λ io x. refl) (λ away n. refl)
 
   -- any call of a card with this identity
   pub run-local : (c : Call) → bare (t .own) ≡ us → Asked c (run t c) → Fits c (run t c)

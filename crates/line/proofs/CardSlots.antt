@@ -12,7 +12,7 @@ use Rattle.csm.proofs.TextLaws.{same-refl}
 use Rattle.partner.specs.declared.Entry.{Entry}
 use Rattle.partner.specs.Entry.{filled}
 use Rattle.partner.specs.Legal as partner
-use Rattle.image.specs.Table.{Table, find}
+use Rattle.partner.specs.Table.{Table, find}
 use Rattle.calls.specs.Calls.{entry-of}
 use Rattle.calls.specs.Claims.{Slot, kept, turned, placed, emptied, Row, end, next}
 use Rattle.calls.proofs.Tests.{if-true, if-false}

@@ -4,26 +4,24 @@ use mathlib.Core.List.{[], _∷_}
 use mathlib.Core.Option.{none}
 use Prim.Native.Nat.{ℕ}
 use Rattle.octets.specs.Text.{Text, ascii}
-use Rattle.keying.specs.Parity.{odd, odd-byte}
-use Rattle.keying.specs.Keys.{odd-top, unseal}
+use Rattle.keying.specs.Keys.{unseal}
 use Rattle.csm.specs.Message.{read}
 use Rattle.csm.specs.Covered.{covered}
 use Rattle.partner.specs.declared.DataKey.{DataKey}
 use Rattle.partner.specs.declared.KeySet.{KeySet}
 use Rattle.partner.specs.declared.Entry.{Entry}
-use Rattle.partner.specs.Entry.{waiting, confirmed, broken, empty, filled, name-of, risen}
+use Rattle.partner.specs.Entry.{waiting, confirmed, broken, filled, name-of, risen}
 use Rattle.partner.specs.Entry.{no-keys, two-keys}
 use Rattle.partner.specs.Changes.{sending, receiving as receiving-side, accepted, issued, settled, given-up}
-use Rattle.partner.specs.Legal as partner
-use Rattle.partner.specs.Record.{place-bytes, set-bytes, top-bytes, front-bytes, count-bytes, entry-bytes}
-use Rattle.image.specs.Table.{Table, is-empty, empties, slots-legal, legal}
+use Rattle.partner.specs.Table.{Table, is-empty, empties, slots-legal, legal}
+use Rattle.partner.proofs.Examples as entries
 use Rattle.calls.specs.declared.KeyRequest.{KeyRequest}
 use Rattle.calls.specs.declared.Request.{Request}
 use Rattle.calls.specs.Words.{any, some-has}
 use Rattle.calls.specs.Outcome.{success, nothing, keys, confirmation}
 use Rattle.calls.specs.Receive as by-class
 use Rattle.calls.specs.Build as building
-use Rattle.calls.specs.Calls.{receive, build-ksm, give-up, load, remove, refuse, at-partner, receiving, loading}
+use Rattle.calls.specs.Calls.{receive, about, build-ksm, give-up, load, remove, refuse, at-partner, receiving, loading}
 use Rattle.calls.specs.Calls.{perform, run}
 use Rattle.calls.proofs.Example as worked
 use Rattle.line.specs.Line.{entry-for}
@@ -33,11 +31,8 @@ use Rattle.line.specs.Worked.{first-ksm, second-ksm}
 -- what is opened for a call to be computed
 unfoldable pub computes : Unit {0}
 unfolding
-    worked.computes odd odd-byte odd-top unseal read covered empty risen sending receiving-side accepted issued settled given-up
-    partner.is-filled partner.is-named partner.set-named partner.names-formed partner.is-unused partner.set-clean
-    partner.form-clean partner.unused-zero partner.top-odd partner.counts-right partner.idle-right
-    partner.outgoing-right partner.incoming-right partner.legal
-    entry-bytes front-bytes count-bytes set-bytes place-bytes top-bytes is-empty empties slots-legal legal any some-has
+    worked.computes entries.computes unseal read covered risen sending receiving-side accepted issued settled given-up
+    is-empty empties slots-legal legal any some-has
     by-class.foreign by-class.uneven by-class.brought by-class.bad-format by-class.bad-mac
     by-class.bad-count by-class.faults by-class.judged by-class.receive-ksm by-class.is-waiting by-class.receive-rsm
     by-class.receive
@@ -92,7 +87,7 @@ pub mill-loads : run (started MILL) (load HARBOR key-name pair)
 unfolding computes
 mill-loads = refl
 
-pub mill-removes-nobody : run (started MILL) (remove HARBOR) ≡ refuse (started MILL) 3
+pub mill-removes-nobody : run (started MILL) (about HARBOR remove) ≡ refuse (started MILL) 3
 unfolding computes
 mill-removes-nobody = refl
 
@@ -109,7 +104,7 @@ pub harbor-loads : run (started HARBOR) (load MILL key-name pair)
 unfolding computes
 harbor-loads = refl
 
-pub mill-builds : run (mill 1 0 no-keys) (build-ksm 256 HARBOR first-request)
+pub mill-builds : run (mill 1 0 no-keys) (about HARBOR (build-ksm 256 first-request))
     ≡ record { outcome = success first-ksm nothing; table = mill 2 waiting first-keys }
 unfolding computes
 mill-builds = refl
@@ -124,12 +119,12 @@ pub mill-confirms : run (mill 2 waiting first-keys) (receive 256 answering-rsm)
 unfolding computes
 mill-confirms = refl
 
-pub mill-gives-up : run (mill 2 waiting first-keys) (give-up HARBOR)
+pub mill-gives-up : run (mill 2 waiting first-keys) (about HARBOR give-up)
     ≡ record { outcome = success [] nothing; table = mill 2 broken no-keys }
 unfolding computes
 mill-gives-up = refl
 
-pub mill-builds-again : run (mill 2 broken no-keys) (build-ksm 256 HARBOR second-request)
+pub mill-builds-again : run (mill 2 broken no-keys) (about HARBOR (build-ksm 256 second-request))
     ≡ record { outcome = success second-ksm nothing; table = mill 3 waiting second-keys }
 unfolding computes
 mill-builds-again = refl

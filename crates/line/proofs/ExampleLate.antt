@@ -16,7 +16,7 @@ use Rattle.calls.specs.declared.Request.{Request}
 use Rattle.calls.specs.Words.{if_then_else_}
 use Rattle.calls.specs.Outcome.{P, success, complaint, nothing, keys, confirmation, failure}
 use Rattle.calls.specs.Receive as by-class
-use Rattle.calls.specs.Calls.{receive, build-ksm, After, entry-of, run}
+use Rattle.calls.specs.Calls.{receive, about, build-ksm, After, entry-of, run}
 use Rattle.line.specs.Line.{_∈_, State, texts, count-in, count-from, counted, Allowed, entry-for}
 use Rattle.line.specs.Line.{a-to-b, called-for, Distinct, Agreed, begin, Late-error}
 use Rattle.line.specs.Worked.{MILL, HARBOR, key-name, pair, first-ksm, third-ksm}
@@ -60,7 +60,7 @@ mill-breaks : run (mill 2 waiting first-keys) (receive 256 the-esm)
 unfolding computes by-class.receive-esm failed
 mill-breaks = refl
 
-mill-builds-new : run (mill 2 broken no-keys) (build-ksm 256 HARBOR new-request)
+mill-builds-new : run (mill 2 broken no-keys) (about HARBOR (build-ksm 256 new-request))
     ≡ record { outcome = success third-ksm nothing; table = mill 3 waiting new-keys }
 unfolding computes
 mill-builds-new = refl
@@ -116,7 +116,7 @@ anew =
     (rw counted-new at
     (at-harbor (state (mill 3 waiting new-keys) (harbor 2 first-keys) two-sent (complained 2) (1 ∷ []))
     (receive 256 third-ksm) _ harbor-takes-new (λ r e o. List·Memᴰ·head refl)
-    (at-mill broken-off (build-ksm 256 HARBOR new-request) _ mill-builds-new
+    (at-mill broken-off (about HARBOR (build-ksm 256 new-request)) _ mill-builds-new
     (record { first = omega arith; second = omega arith }) begin)))
 
 pub late : Late-error MILL HARBOR key-name pair both-started agreed-anew

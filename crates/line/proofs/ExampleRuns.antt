@@ -11,9 +11,9 @@ use Rattle.partner.specs.declared.KeySet.{KeySet}
 use Rattle.partner.specs.declared.Entry.{Entry}
 use Rattle.partner.specs.Entry.{waiting, confirmed, broken, no-keys}
 use Rattle.partner.specs.Changes.{sending, receiving as receiving-side}
-use Rattle.image.specs.Table.{Table}
+use Rattle.partner.specs.Table.{Table}
 use Rattle.calls.specs.Words.{if_then_else_}
-use Rattle.calls.specs.Calls.{Call, receive, build-ksm, give-up, load, remove, After, entry-of, run, start}
+use Rattle.calls.specs.Calls.{Call, receive, about, build-ksm, give-up, load, remove, After, entry-of, run, start}
 use Rattle.line.specs.Line.{State, texts, count-in, count-from, counted, In-64-bits, Allowed}
 use Rattle.line.specs.Line.{entry-for, Reach, begin, step-a, step-b, Afresh, Distinct, Agreed}
 use Rattle.line.specs.Worked.{MILL, HARBOR, key-name, pair, other-name, other-key, mistyped}
@@ -99,7 +99,7 @@ mistaken-run =
     (λ z o. absurd (omega arith))
     (at-mill both-started (load HARBOR key-name pair) _ mill-loads (λ z o. (refl, refl))
     (at-mill both-started (load HARBOR key-name mistyped) _ mill-mistypes (λ z o. absurd (omega arith))
-    (at-mill both-started (remove HARBOR) _ mill-removes-nobody (λ z o. absurd (omega arith)) begin)))
+    (at-mill both-started (about HARBOR remove) _ mill-removes-nobody (λ z o. absurd (omega arith)) begin)))
 
 loaded-run : Run both-started (state (mill 1 0 no-keys) (harbor 1 no-keys) [] [] [])
 unfolding texts counted Allowed
@@ -110,7 +110,7 @@ loaded-run =
 built-run : Run both-started (state (mill 2 waiting first-keys) (harbor 1 no-keys) (first-ksm ∷ []) [] [])
 unfolding texts Allowed
 built-run =
-    at-mill (state (mill 1 0 no-keys) (harbor 1 no-keys) [] [] []) (build-ksm 256 HARBOR first-request) _ mill-builds
+    at-mill (state (mill 1 0 no-keys) (harbor 1 no-keys) [] [] []) (about HARBOR (build-ksm 256 first-request)) _ mill-builds
     first-small loaded-run
 
 pub answered-run : Run both-started answered
@@ -163,8 +163,8 @@ misled-run =
     at-mill (state (mill 3 waiting second-keys) (harbor 2 first-keys) two-sent (answering-rsm ∷ []) (1 ∷ []))
     (receive 256 answering-rsm) _ mill-confirms-others (λ r e o. List·Memᴰ·head refl)
     (at-mill (state (mill 2 broken no-keys) (harbor 2 first-keys) (first-ksm ∷ []) (answering-rsm ∷ []) (1 ∷ []))
-    (build-ksm 256 HARBOR second-request) _ mill-builds-again second-small
-    (at-mill answered (give-up HARBOR) _ mill-gives-up tt answered-run))
+    (about HARBOR (build-ksm 256 second-request)) _ mill-builds-again second-small
+    (at-mill answered (about HARBOR give-up) _ mill-gives-up tt answered-run))
 
 pub misled-confirmed : (entry-of HARBOR (misled .a) ≡ some (mill-entry 3 second-keys))
     × (mill-entry 3 second-keys .phase ≡ confirmed)

@@ -14,7 +14,7 @@ use Rattle.partner.specs.declared.KeySet.{KeySet}
 use Rattle.partner.specs.declared.Entry.{Entry}
 use Rattle.partner.specs.Entry.{confirmed, limit}
 use Rattle.partner.specs.Changes.{loaded}
-use Rattle.image.specs.Table.{Table}
+use Rattle.partner.specs.Table.{Table}
 use Rattle.calls.specs.Calls.{receive, load, entry-of, run}
 use Rattle.calls.proofs.Readings.{ksm-parts}
 use Rattle.line.specs.Line.{_∈_, State, texts, counted, Rising, Allowed, entry-for, Reach, begin}

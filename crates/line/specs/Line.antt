@@ -14,11 +14,11 @@ use Rattle.csm.specs.Covered.{covered-part}
 use Rattle.partner.specs.declared.Entry.{Entry}
 use Rattle.partner.specs.Entry.{name-of, keys-in, confirmed}
 use Rattle.partner.specs.Changes.{loaded}
-use Rattle.image.specs.Table.{Table}
+use Rattle.partner.specs.Table.{Table}
 use Rattle.calls.specs.declared.Request.{Request}
 use Rattle.calls.specs.Words.{if_then_else_}
 use Rattle.calls.specs.Receive.{rsm-body, brought}
-use Rattle.calls.specs.Calls.{Call, receive, build-ksm, build-rsi, give-up, load, remove, ask, run, start, entry-of}
+use Rattle.calls.specs.Calls.{Act, build-ksm, build-rsi, give-up, remove, ask, Call, receive, about, load, run, start, entry-of}
 
 infix 20 _∈_
 -- a text, or a count, is in a list
@@ -56,12 +56,8 @@ count-from id (some r) = if same (r .org) id then count-in (r .body) else []
 -- the count of a key message from that partner that the call accepted
 unfoldable pub counted : Text → Call → ℕ → List ℕ
 counted id (receive room text) answer = if eqb answer 0 then count-from id (read text) else []
-counted id (build-ksm room to q) answer = []
-counted id (build-rsi room to s) answer = []
-counted id (give-up to) answer = []
+counted id (about to a) answer = []
 counted id (load to key-name key) answer = []
-counted id (remove to) answer = []
-counted id (ask to) answer = []
 
 -- counts, the newest first, that strictly rise
 pub data Rising : List ℕ → Type 0 where
@@ -95,20 +91,24 @@ pub record In-64-bits (q : Request) : Type 0 where
   pub first : q .first .key < 2 ^ 64
   pub second : q .second .key < 2 ^ 64
 
+-- what is asked of an act about a partner that is answered so; `other` is the other card
+abbrev pub Allowed-act : Text → Text → Act → ℕ → Type 0
+Allowed-act other to (build-ksm room q) answer = In-64-bits q
+Allowed-act other to (build-rsi room s) answer = Unit {0}
+Allowed-act other to give-up answer = Unit {0}
+-- a remove does not find the other card
+Allowed-act other to remove answer = answer ≡ 0 → to ≢ other
+Allowed-act other to ask answer = Unit {0}
+
 -- the two are loaded for each other with one key or pair under one name
 module _ (name : Text) (top : Top) where
   -- what is asked of a call that is answered so; `other` is the other card, `wrote` what that card has written
   unfoldable pub Allowed : Text → List Text → Call → ℕ → Type 0
   -- a message naming the other card as originator was written by it
   Allowed other wrote (receive room text) answer = (r : Reading) → read text ≡ some r → r .org ≡ other → text ∈ wrote
-  Allowed other wrote (build-ksm room to q) answer = In-64-bits q
-  Allowed other wrote (build-rsi room to s) answer = Unit {0}
-  Allowed other wrote (give-up to) answer = Unit {0}
+  Allowed other wrote (about to a) answer = Allowed-act other to a answer
   -- a load of the other card is refused, or has that key under that name
   Allowed other wrote (load to key-name key) answer = answer ≡ 0 → to ≡ other → (key-name ≡ name) × (key ≡ top)
-  -- a remove does not find the other card
-  Allowed other wrote (remove to) answer = answer ≡ 0 → to ≢ other
-  Allowed other wrote (ask to) answer = Unit {0}
 
   -- the entry that loading makes
   abbrev pub entry-for : Text → Entry

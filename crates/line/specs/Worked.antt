@@ -5,10 +5,10 @@ use Rattle.octets.specs.Text.{Text, ascii}
 use Rattle.keying.specs.declared.Top.{Top}
 use Rattle.keying.specs.declared.Top.the-variants.{Single, Pair}
 use Rattle.partner.specs.Entry.{name-of}
-use Rattle.image.specs.Table.{Table, started}
+use Rattle.partner.specs.Table.{Table, started}
 use Rattle.calls.specs.declared.KeyRequest.{KeyRequest}
 use Rattle.calls.specs.declared.Request.{Request}
-use Rattle.calls.specs.Calls.{Call, receive, build-ksm, build-rsi, give-up, load, remove, ask, run}
+use Rattle.calls.specs.Calls.{Call, receive, about, build-ksm, build-rsi, give-up, load, remove, ask, run}
 use Rattle.line.specs.Line.{Allowed, Distinct}
 
 abbrev pub MILL : Text
@@ -94,13 +94,13 @@ pub record Worked : Type 0 where
   pub not-written-by-quay : May [] after (receive 256 from-quay)
   pub no-message : May [] after (receive 256 (ascii "CSM"))
   -- the keys of a request are numbers of 64 bits
-  pub keys-of-64-bits : May [] after (build-ksm 256 HARBOR (request (plain largest) (plain largest)))
-  pub first-too-large : May [] after (build-ksm 256 HARBOR (request (plain (2 ^ 64)) (plain 0))) → ⊥
-  pub second-too-large : May [] after (build-ksm 256 HARBOR (request (plain 0) (plain (2 ^ 64)))) → ⊥
+  pub keys-of-64-bits : May [] after (about HARBOR (build-ksm 256 (request (plain largest) (plain largest))))
+  pub first-too-large : May [] after (about HARBOR (build-ksm 256 (request (plain (2 ^ 64)) (plain 0)))) → ⊥
+  pub second-too-large : May [] after (about HARBOR (build-ksm 256 (request (plain 0) (plain (2 ^ 64))))) → ⊥
   -- of these nothing is asked
-  pub rsi-built : May [] after (build-rsi 256 HARBOR (ascii "KD.IV"))
-  pub given-up : May [] after (give-up HARBOR)
-  pub asked : May [] after (ask HARBOR)
+  pub rsi-built : May [] after (about HARBOR (build-rsi 256 (ascii "KD.IV")))
+  pub given-up : May [] after (about HARBOR give-up)
+  pub asked : May [] after (about HARBOR ask)
   -- a load of HARBOR is refused, or has the pair under its name
   pub loaded : May [] before (load HARBOR key-name pair)
   pub loaded-under-another-name : May [] before (load HARBOR other-name pair) → ⊥
@@ -109,9 +109,9 @@ pub record Worked : Type 0 where
   pub taken-is-refused : May [] after (load HARBOR other-name other-key)
   pub third-loaded : May [] after (load QUAY other-name other-key)
   -- a remove does not find HARBOR
-  pub nobody-removed : May [] before (remove HARBOR)
-  pub harbor-removed : May [] after (remove HARBOR) → ⊥
-  pub third-removed : May [] (run after (load QUAY other-name other-key) .table) (remove QUAY)
+  pub nobody-removed : May [] before (about HARBOR remove)
+  pub harbor-removed : May [] after (about HARBOR remove) → ⊥
+  pub third-removed : May [] (run after (load QUAY other-name other-key) .table) (about QUAY remove)
   -- no two key messages call for answers with equal MACs
   pub equal-macs : Distinct MILL HARBOR key-name pair (second-ksm ∷ first-ksm ∷ []) → ⊥
   pub different-macs : Distinct MILL HARBOR key-name pair (third-ksm ∷ first-ksm ∷ [])

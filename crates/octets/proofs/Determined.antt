@@ -34,3 +34,6 @@ number κs a x y v w p q = (alike p q, refl)
 
 pub put-number : One-outcome fn.put_number.ended fn.put_number.Reads.Post
 put-number κs a x y v w p q = (alike (p .1) (q .1), alike (p .0) (q .0) also refl)
+
+pub then : One-outcome fn.then.ended fn.then.Reads.Post
+then κs a x y v w p q = (alike p q, refl)

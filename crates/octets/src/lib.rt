@@ -1,4 +1,5 @@
-// Leaves over lent bytes: compare, find, copy to the front of a lent rest, numbers high byte first.
+// Leaves over lent bytes: compare, find, copy to the front of a lent rest, numbers high byte first; and the first test that
+// holds.
 ghost use mathlib.Core.Path.{_≡_};
 ghost use Prim.Native.Nat.{_+_, _/_, _%_, _^_, min};
 ghost use lib.ListN.{length, drop};
@@ -6,6 +7,7 @@ ghost use Rattle.octets.specs.Text as text;
 ghost use Rattle.octets.specs.Part as part;
 ghost use Rattle.octets.specs.Number as numbers;
 ghost use Rattle.octets.specs.Wrote as wrote;
+ghost use Rattle.octets.specs.First as first;
 
 // Whether the two are one text.
 pub fn same(a: &[u8], b: &[u8]) -> bool
@@ -181,4 +183,14 @@ pub fn put_number(rest: &mut [u8], k: usize, x: u64) -> usize
         i += 1;
     }
     i
+}
+
+// The answer so far; where there is none yet and the test holds, that number.
+pub fn then(answer: u32, holds: bool, number: u32) -> u32
+    ensures { λ r. ⌜ r ≡ first.then answer holds number ⌝ }
+{
+    if answer == 0 {
+        return if holds { number } else { 0 };
+    }
+    answer
 }

@@ -7,20 +7,29 @@ use Rattle.outcome.proofs as fn
 pub no-date : One-outcome fn.no_date.ended fn.no_date.Reads.Post
 no-date κs a x y v w p q = (alike p q, refl)
 
-pub no-request : One-outcome fn.no_request.ended fn.no_request.Reads.Post
-no-request κs a x y v w p q = (alike p q, refl)
-
 pub refusal : One-outcome fn.refusal.ended fn.refusal.Reads.Post
 refusal κs a x y v w p q = (alike p q, refl)
 
 pub refused : One-outcome fn.refused.ended fn.refused.Reads.Post
 refused κs a x y v w p q = (alike p q, refl)
 
-pub complained : One-outcome fn.complained.ended fn.complained.Reads.Post
-complained κs a x y v w p q = (alike p q, refl)
+pub complaint : One-outcome fn.complaint.ended fn.complaint.Reads.Post
+complaint κs a x y v w p q = (alike p q, refl)
 
-pub done : One-outcome fn.done.ended fn.done.Reads.Post
-done κs a x y v w p q = (alike p q, refl)
+pub told-nothing : One-outcome fn.told_nothing.ended fn.told_nothing.Reads.Post
+told-nothing κs a x y v w p q = (alike p q, refl)
+
+pub told-service : One-outcome fn.told_service.ended fn.told_service.Reads.Post
+told-service κs a x y v w p q = (alike p q, refl)
+
+pub told-keys : One-outcome fn.told_keys.ended fn.told_keys.Reads.Post
+told-keys κs a x y v w p q = (alike p q, refl)
+
+pub told-confirmation : One-outcome fn.told_confirmation.ended fn.told_confirmation.Reads.Post
+told-confirmation κs a x y v w p q = (alike p q, refl)
+
+pub told-failure : One-outcome fn.told_failure.ended fn.told_failure.Reads.Post
+told-failure κs a x y v w p q = (alike p q, refl)
 
 pub is-sound : One-outcome fn.is_sound.ended fn.is_sound.Reads.Post
 is-sound κs a x y v w p q = (alike p q, refl)

@@ -1,39 +1,67 @@
--- What the code gives of an outcome: the paper's number of the answer, the letters, the reply's length and what is told,
--- case by case (document 01, "Answers").
+-- What the code gives of an outcome, as one flat report: the paper's number of the answer, the letters, the reply's length
+-- and what is told, part by part (document 01, "Answers").
+use mathlib.Core.Bool.{Bool, false, cond}
 use mathlib.Core.List.{_++_}
 use mathlib.Core.Option.{Option, none, some}
-use Prim.Native.Nat.{ℕ}
+use Prim.Native.Nat.{ℕ, _+_}
+use lib.Dec.{ltb}
 use lib.ListN.{length, drop}
 use Rattle.octets.specs.Text.{Text}
 use Rattle.octets.specs.Number.{copies}
 use Rattle.csm.specs.Message.{found}
-use Rattle.partner.specs.declared.Entry.{Entry}
 use Rattle.calls.specs.declared.Date.{Date}
 use Rattle.calls.specs.Outcome.{Outcome, Turn, Told, nothing, service, keys, confirmation, failure}
-use Rattle.outcome.specs.declared.Handed.{Handed}
-use Rattle.outcome.specs.declared.Telling.{Telling}
-use Rattle.outcome.specs.declared.Telling.the-variants.{Nothing, Service, Keys, Confirmation, Failure}
 use Rattle.outcome.specs.declared.Report.{Report}
 use Rattle.outcome.specs.declared.Turned.{Turned}
 
--- ---- what is told
+-- ---- what is told, part by part
+
+-- the class of the message read: 0 none, 1 RSI, 2 KSM, 3 RSM, 4 ESM
+abbrev pub class-told : Told → ℕ
+class-told nothing = 0
+class-told (service place) = 1
+class-told (keys iv edk) = 2
+class-told confirmation = 3
+class-told (failure letters) = 4
+
+-- the service wanted: the twelve contents of SVR from 1 on, 0 none
+abbrev pub service-number : ℕ → ℕ
+service-number place = cond (ltb place 12) (place + 1) 0
+
+abbrev pub service-told : Told → ℕ
+service-told nothing = 0
+service-told (service place) = service-number place
+service-told (keys iv edk) = 0
+service-told confirmation = 0
+service-told (failure letters) = 0
+
+-- the letters of an error: ours, or those of an ESM that was taken
+abbrev pub letters-told : ℕ → Told → ℕ
+letters-told ours nothing = ours
+letters-told ours (service place) = ours
+letters-told ours (keys iv edk) = ours
+letters-told ours confirmation = ours
+letters-told ours (failure letters) = letters
+
+-- the IV and the date of a KSM, each with a presence of its own
+abbrev pub iv-told : Told → Option ℕ
+iv-told nothing = none
+iv-told (service place) = none
+iv-told (keys iv edk) = iv
+iv-told confirmation = none
+iv-told (failure letters) = none
+
+abbrev pub date-told : Told → Option Text
+date-told nothing = none
+date-told (service place) = none
+date-told (keys iv edk) = edk
+date-told confirmation = none
+date-told (failure letters) = none
 
 -- a number, or zero where there is none
 abbrev pub or-zero : Option ℕ → ℕ
 or-zero none = 0
 or-zero (some n) = n
-
--- IV and date, each with a presence of its own
-abbrev pub handed : Option ℕ → Option Text → Handed
-handed iv edk = record { vector = found iv; iv = or-zero iv; dated = found edk }
-
--- case by case
-abbrev pub telling : Told → Telling
-telling nothing = Nothing
-telling (service s) = Service s
-telling (keys iv edk) = Keys (handed iv edk)
-telling confirmation = Confirmation
-telling (failure letters) = Failure letters
 
 -- the digits of a date, or zeros where there is none
 abbrev pub no-date : Date
@@ -43,22 +71,19 @@ abbrev pub date-of : Option Text → Date
 date-of none = no-date
 date-of (some w) = record { digits = w }
 
-abbrev pub date-told : Told → Date
-date-told nothing = no-date
-date-told (service s) = no-date
-date-told (keys iv edk) = date-of edk
-date-told confirmation = no-date
-date-told (failure letters) = no-date
-
 -- ---- the whole
 
 unfoldable pub report : Outcome → Report
 report o = record {
   answer = o .answer;
-  letters = o .letters;
+  letters = letters-told (o .letters) (o .told);
   length = length (o .reply);
-  telling = telling (o .told);
-  date = date-told (o .told);
+  class = class-told (o .told);
+  service = service-told (o .told);
+  vector = found (iv-told (o .told));
+  iv = or-zero (iv-told (o .told));
+  dated = found (date-told (o .told));
+  date = date-of (date-told (o .told));
 }
 
 unfoldable pub turned : Turn → Turned
@@ -68,22 +93,32 @@ turned t = record { entry = t .entry; report = report (t .outcome) }
 unfoldable pub replied : Outcome → Text → Text
 replied o l = o .reply ++ drop (length (o .reply)) l
 
--- ---- each kind of result
+-- ---- reports by the length of a reply, where the code has no more of it
 
-abbrev pub refusal-report : ℕ → Report
-refusal-report n = record { answer = n; letters = 0; length = 0; telling = Nothing; date = no-date }
-
-abbrev pub refused-turned : Entry → ℕ → Turned
-refused-turned e n = record { entry = e; report = refusal-report n }
-
-abbrev pub complained-turned : Entry → ℕ → ℕ → Turned
-complained-turned e letters n = record {
-  entry = e;
-  report = record { answer = 4; letters = letters; length = n; telling = Nothing; date = no-date };
+-- nothing is told: the answer, our letters, the length
+abbrev pub plain : ℕ → ℕ → ℕ → Report
+plain answer letters n = record {
+  answer = answer;
+  letters = letters;
+  length = n;
+  class = 0;
+  service = 0;
+  vector = false;
+  iv = 0;
+  dated = false;
+  date = no-date;
 }
 
-abbrev pub done-turned : Entry → ℕ → Telling → Date → Turned
-done-turned e n t d = record {
-  entry = e;
-  report = record { answer = 0; letters = 0; length = n; telling = t; date = d };
+-- an accepted KSM, before its reply is written
+abbrev pub keys-told : Bool → ℕ → Bool → Date → Report
+keys-told vector iv dated date = record {
+  answer = 0;
+  letters = 0;
+  length = 0;
+  class = 2;
+  service = 0;
+  vector = vector;
+  iv = iv;
+  dated = dated;
+  date = date;
 }

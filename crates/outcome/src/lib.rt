@@ -1,36 +1,24 @@
 // What a call gives, in code: its answer and what goes with it, and one partner's entry after it.
 ghost use mathlib.Core.Path.{_≡_};
-ghost use lib.ListN.{length};
+ghost use mathlib.Core.List.{[]};
+ghost use Rattle.calls.specs.Outcome as outcomes;
 ghost use Rattle.outcome.specs.Report as report;
 ghost use Rattle.outcome.specs.Acts as acts;
 use calls::Date;
-use calls::KeyRequest;
-use calls::Request;
 use partner::Entry;
-use partner::Name;
 
-// What a KSM that was accepted hands out: its IV, zero where it has none, and whether it has a date.
-pub struct Handed {
-    pub vector: bool,
-    pub iv: u64,
-    pub dated: bool,
-}
-
-// What is told besides: of an RSI the service wanted, of a KSM IV and date, of an RSM that it confirms, of an ESM its letters.
-pub enum Telling {
-    Nothing,
-    Service(u64),
-    Keys(Handed),
-    Confirmation,
-    Failure(u64),
-}
-
-// A call's answer, the letters of its error, the length of its reply, what is told, and the date of a KSM, zero where none.
+// A call's answer, the letters of an error, ours or those of an ESM that was taken, the length of its reply; the class of
+// the message read, 1 an RSI, 2 a KSM, 3 an RSM, 4 an ESM, else 0; the service that an RSI wants, from 1 on, else 0; IV and
+// date of a KSM, each with a presence of its own, zero where there is none.
 pub struct Report {
     pub answer: u32,
     pub letters: u64,
     pub length: usize,
-    pub telling: Telling,
+    pub class: u8,
+    pub service: u64,
+    pub vector: bool,
+    pub iv: u64,
+    pub dated: bool,
     pub date: Date,
 }
 
@@ -40,21 +28,6 @@ pub struct Turned {
     pub report: Report,
 }
 
-// What is asked of one partner's entry.
-pub enum Act {
-    Receive,
-    BuildKsm,
-    BuildRsi,
-    GiveUp,
-    Remove,
-}
-
-// It and the request of a KSM. The text received, or the contents of SVR, and the reply buffer are lent beside it.
-pub struct Asked {
-    pub act: Act,
-    pub request: Request,
-}
-
 // No date.
 pub fn no_date() -> Date
     ensures { λ r. ⌜ r ≡ report.no-date ⌝ }
@@ -62,42 +35,33 @@ pub fn no_date() -> Date
     Date { digits: [0; 12] }
 }
 
-// A request of no keys: zero throughout, for what asks for none.
-pub fn no_request() -> Request
-    ensures { λ r. ⌜ r ≡ acts.no-request ⌝ }
+// The answer, the letters of our own error and the length of the reply; nothing is told.
+fn plain(answer: u32, letters: u64, length: usize) -> Report
+    ensures { λ r. ⌜ r ≡ report.plain answer letters length ⌝ }
 {
-    let key = KeyRequest {
-        key: 0,
-        flags: 0,
-        name: Name { bytes: [0; 16] },
-    };
-    Request {
-        count: 0,
-        first: key,
-        second: key,
-        kind: 0,
+    Report {
+        answer,
+        letters,
+        length,
+        class: 0,
+        service: 0,
+        vector: false,
         iv: 0,
-        dated: 0,
+        dated: false,
         date: no_date(),
     }
 }
 
 // A refusal: every other part is zero or empty.
 pub fn refusal(answer: u32) -> Report
-    ensures { λ r. ⌜ r ≡ report.refusal-report answer ⌝ }
+    ensures { λ r. ⌜ r ≡ report.report (outcomes.refusal answer) ⌝ }
 {
-    Report {
-        answer,
-        letters: 0,
-        length: 0,
-        telling: Telling::Nothing,
-        date: no_date(),
-    }
+    plain(answer, 0, 0)
 }
 
 // The answer n, the entry as it was.
 pub fn refused(e: Entry, answer: u32) -> Turned
-    ensures { λ r. ⌜ r ≡ report.refused-turned e answer ⌝ }
+    ensures { λ r. ⌜ r ≡ report.turned (outcomes.refused e answer) ⌝ }
 {
     Turned {
         entry: e,
@@ -105,34 +69,72 @@ pub fn refused(e: Entry, answer: u32) -> Turned
     }
 }
 
-// 4: the letters, and the length of the ESM; the entry as it was.
-pub fn complained(e: Entry, letters: u64, length: usize) -> Turned
-    ensures { λ r. ⌜ r ≡ report.complained-turned e letters length ⌝ }
+// 4: the letters, and the length of the ESM.
+pub fn complaint(letters: u64, length: usize) -> Report
+    ensures { λ r. ⌜ r ≡ report.plain 4 letters length ⌝ }
 {
-    let report = Report {
-        answer: 4,
-        letters,
-        length,
-        telling: Telling::Nothing,
-        date: no_date(),
-    };
-    Turned { entry: e, report }
+    plain(4, letters, length)
 }
 
-// 0: the entry as it is now, the length of the reply, and what is told, a date with it.
-pub fn done(e: Entry, length: usize, telling: Telling, date: Date) -> Turned
-    ensures { λ r. ⌜ r ≡ report.done-turned e length telling date ⌝ }
+// ---- 0, and what is told
+
+// Nothing: the length of the reply.
+pub fn told_nothing(length: usize) -> Report
+    ensures { λ r. ⌜ r ≡ report.plain 0 0 length ⌝ }
 {
-    Turned {
-        entry: e,
-        report: Report {
-            answer: 0,
-            letters: 0,
-            length,
-            telling,
-            date,
-        },
+    plain(0, 0, length)
+}
+
+// The number of a service, by its place among the twelve contents of SVR.
+fn service_number(place: u64) -> u64
+    ensures { λ r. ⌜ r ≡ report.service-number place ⌝ }
+{
+    if place < 12 {
+        return place + 1;
     }
+    0
+}
+
+// An RSI: the service wanted.
+pub fn told_service(place: u64) -> Report
+    ensures { λ r. ⌜ r ≡ report.report (outcomes.success [] (outcomes.service place)) ⌝ }
+{
+    let mut r = told_nothing(0);
+    r.class = 1;
+    r.service = service_number(place);
+    r
+}
+
+// A KSM: its IV, zero where there is none, and its date, zeros where there is none.
+pub fn told_keys(vector: bool, iv: u64, dated: bool, date: Date) -> Report
+    ensures { λ r. ⌜ r ≡ report.keys-told vector iv dated date ⌝ }
+{
+    let mut r = told_nothing(0);
+    r.class = 2;
+    r.vector = vector;
+    r.iv = iv;
+    r.dated = dated;
+    r.date = date;
+    r
+}
+
+// An RSM: it confirms.
+pub fn told_confirmation() -> Report
+    ensures { λ r. ⌜ r ≡ report.report (outcomes.success [] outcomes.confirmation) ⌝ }
+{
+    let mut r = told_nothing(0);
+    r.class = 3;
+    r
+}
+
+// An ESM: its letters.
+pub fn told_failure(letters: u64) -> Report
+    ensures { λ r. ⌜ r ≡ report.report (outcomes.success [] (outcomes.failure letters)) ⌝ }
+{
+    let mut r = told_nothing(0);
+    r.class = 4;
+    r.letters = letters;
+    r
 }
 
 // Whether our identity and the entry are as a legal table has them.

@@ -12,8 +12,10 @@ use Rattle.partner.specs.Changes.{sending, receiving, loaded, accepted, 
 use Rattle.partner.specs.Claims.{Same-receiving, Same-sending, Loads, Breaks}
 use Rattle.partner.specs.Claims.{Claims}
 use Rattle.partner.proofs.Naming.{bare-filled, filled-filled, filled-bare, blanks-unnamed}
+use Rattle.partner.proofs.Ruling.{broken-first, legal-passed}
 use Rattle.partner.proofs.Keeping.{loaded-legal, accepted-legal, issued-legal, settled-legal, given-up-legal}
 use Rattle.partner.proofs.Keeping.{failed-legal, risen-below, one-formed, two-formed}
+use Rattle.partner.proofs.Tabling as tables
 use Rattle.partner.proofs.Fielding.{length-entry, entry-back}
 use Rattle.partner.proofs.Joining.{read-written, entry-held, octets-entry}
 
@@ -82,6 +84,10 @@ claims = record {
   given-up-so = λ e. record { next = refl; phase = refl; outgoing = refl; receiving = sent-anew e _ _ _ };
   failed-below = λ e x h. breaks e (e .next) x (omega arith);
   failed-above = λ e x h. breaks e x x (omega arith);
+  broken-exactly = broken-first;
+  legal-exactly = legal-passed;
+  table-broken-exactly = tables.broken-first;
+  table-legal-exactly = tables.legal-passed;
   loaded-is-legal = loaded-legal;
   accepted-is-legal = accepted-legal;
   issued-is-legal = issued-legal;

@@ -72,5 +72,8 @@ put-entry κs a x y v w p q = (alike (p .1) (q .1), alike (p .0) (q .0) also ref
 pub is-filled : One-outcome fn.rules.is_filled.ended fn.rules.is_filled.Reads.Post
 is-filled κs a x y v w p q = (alike p q, refl)
 
+pub broken : One-outcome fn.rules.broken.ended fn.rules.broken.Reads.Post
+broken κs a x y v w p q = (alike p q, refl)
+
 pub legal : One-outcome fn.rules.legal.ended fn.rules.legal.Reads.Post
 legal κs a x y v w p q = (alike p q, refl)

@@ -5,9 +5,11 @@ use Rattle.keying.specs.Parity.{odd, odd-byte}
 use Rattle.keying.specs.Keys.{odd-top}
 use Rattle.partner.specs.Entry.{empty, filled, top-of, places, keys-in}
 use Rattle.partner.specs.Legal.{is-filled, is-named, set-named, names-formed, is-unused, set-clean, form-clean}
-use Rattle.partner.specs.Legal.{unused-zero, top-odd, counts-right, idle-right, outgoing-right, incoming-right, legal}
+use Rattle.partner.specs.Legal.{unused-zero, top-odd, counts-right, idle-right, keys-if, outgoing-right, incoming-right, rules, broken, legal}
 use Rattle.partner.specs.Record.{place-bytes, set-bytes, top-bytes, front-bytes, count-bytes, entry-bytes}
 use Rattle.partner.specs.Record.{set-in, entry-in}
+use Rattle.partner.specs.Table.{is-empty, empties, slot-rules, slots-rules}
+use Rattle.partner.specs.Table as tables
 use Rattle.partner.specs.Examples.{Examples}
 
 -- what is opened for an example to be computed
@@ -15,8 +17,9 @@ unfoldable pub computes : Unit {0}
 unfolding
     number odd odd-byte odd-top empty filled top-of places keys-in
     is-filled is-named set-named names-formed is-unused set-clean form-clean unused-zero top-odd counts-right idle-right
-    outgoing-right incoming-right legal
+    keys-if outgoing-right incoming-right rules broken legal
     place-bytes set-bytes top-bytes front-bytes count-bytes entry-bytes set-in entry-in
+    is-empty empties slot-rules slots-rules tables.rules tables.broken
 computes = tt
 
 pub examples : Examples
@@ -36,6 +39,22 @@ examples = record {
   no-data-key = refl;
   whole-is-legal = refl;
   slight-is-legal = refl;
+  rule-3 = record { alone = refl; number = refl };
+  rule-4 = record { alone = refl; number = refl };
+  rule-5 = record { alone = refl; number = refl };
+  rule-6 = record { alone = refl; number = refl };
+  rule-7 = record { alone = refl; number = refl };
+  rule-8 = record { alone = refl; number = refl };
+  rule-9 = record { alone = refl; number = refl };
+  no-rule = refl;
+  first-of-two = refl;
+  table-without-slots = refl;
+  empty-slot-with-a-key-name = refl;
+  own-name-missing = refl;
+  slot-with-a-broken-rule = refl;
+  one-identity-twice = refl;
+  our-own-identity = refl;
+  table-of-one = refl;
   identity-of-16 = refl;
   no-identity = refl;
   small-letters = refl;

@@ -1,11 +1,11 @@
 -- The changes of an entry keep it legal.
-use mathlib.Core.Path.{_≡_, refl, ap, _∙_}
-use mathlib.Core.Bool.{Bool, true, false, cond, not, _&&_}
+use mathlib.Core.Path.{_≡_, refl, sym, ap, _∙_}
+use mathlib.Core.Bool.{Bool, true, false, _&&_, _||_}
 use Prim.Native.Nat.{ℕ, _+_, _≤_, _<_, max}
 use native.Mathlib.Nat.{le-max-left, max-le}
 use native.Mathlib.Omega.{arith}
 use lib.Dec.{eqb, leb}
-use borrow.Author.Tests.{le-leb, leb-true, lt-ltb, ne-eqb, eqb-false, not-true}
+use borrow.Author.Tests.{le-leb, leb-true, lt-ltb, ne-eqb, eqb-false, not-false}
 use Rattle.octets.specs.Text.{within}
 use Rattle.octets.proofs.Comparing.{both}
 use Rattle.keying.specs.declared.Top.{Top}
@@ -15,12 +15,13 @@ use Rattle.partner.specs.declared.Name.{Name}
 use Rattle.partner.specs.declared.DataKey.{DataKey}
 use Rattle.partner.specs.declared.KeySet.{KeySet}
 use Rattle.partner.specs.declared.Entry.{Entry}
-use Rattle.partner.specs.Entry.{limit, risen, waiting, confirmed, broken, no-keys, one-key, two-keys, top-of}
+use Rattle.partner.specs.Entry.{limit, risen, idle, waiting, confirmed, broken, no-keys, one-key, two-keys, top-of}
 use Rattle.partner.specs.Legal.{exactly, is-filled, is-named, is-unused, set-named, set-clean, keys-formed}
 use Rattle.partner.specs.Legal.{names-formed, form-clean, unused-zero, top-odd}
-use Rattle.partner.specs.Legal.{counts-right, idle-right, outgoing-right}
-use Rattle.partner.specs.Legal.{incoming-right, legal}
+use Rattle.partner.specs.Legal.{counts-right, idle-right, keys-if, outgoing-right}
+use Rattle.partner.specs.Legal.{incoming-right, legal, rules as list}
 use Rattle.partner.specs.Changes.{sending, receiving, loaded, accepted, issued, settled, given-up, failed}
+use Rattle.partner.proofs.Ruling.{legal-kept, kept-legal, _and_}
 
 -- ---- the rules one by one
 
@@ -40,34 +41,30 @@ pub record Rules (e : Entry) : Type 0 where
   pub incoming-right : incoming-right e ≡ true
 
 pub rules : (e : Entry) → legal e ≡ true → Rules e
-unfolding legal names-formed unused-zero counts-right
+unfolding list names-formed unused-zero counts-right
 rules e h =
-    let a = both _ (incoming-right e) h in
-    let b = both _ (outgoing-right e) (a .0) in
-    let c = both _ (idle-right e) (b .0) in
-    let d = both _ (counts-right e) (c .0) in
-    let f = both _ (top-odd e) (d .0) in
-    let g = both (names-formed e) (unused-zero e) (f .0) in
-    let n = both _ (set-named (e .incoming)) (g .0) in
-    let m = both _ (set-named (e .outgoing)) (n .0) in
+    let k = legal-kept e h in
+    let names = both _ (set-named (e .incoming)) (not-false (names-formed e) (k .0)) in
+    let m = both _ (set-named (e .outgoing)) (names .0) in
     let o = both (is-filled (e .identity .bytes)) (is-filled (e .name .bytes)) (m .0) in
-    let u = both _ (set-clean (e .incoming)) (g .1) in
-    let v = both (form-clean e) (set-clean (e .outgoing)) (u .0) in
-    let w = both (within 1 limit (e .next)) (within 1 limit (e .expected)) (d .1) in
+    let unused = both _ (set-clean (e .incoming)) (not-false (unused-zero e) (k .1 .0)) in
+    let v = both (form-clean e) (set-clean (e .outgoing)) (unused .0) in
+    let counts = not-false (counts-right e) (k .1 .1 .1 .0) in
+    let w = both (within 1 limit (e .next)) (within 1 limit (e .expected)) counts in
     record {
       identity-filled = o .0;
       name-filled = o .1;
       outgoing-named = m .1;
-      incoming-named = n .1;
+      incoming-named = names .1;
       form-clean = v .0;
       outgoing-clean = v .1;
-      incoming-clean = u .1;
-      top-odd = f .1;
+      incoming-clean = unused .1;
+      top-odd = not-false (top-odd e) (k .1 .1 .0);
       next-right = w .0;
       expected-right = w .1;
-      idle-right = c .1;
-      outgoing-right = b .1;
-      incoming-right = a .1;
+      idle-right = not-false (idle-right e) (k .1 .1 .1 .1 .0);
+      outgoing-right = not-false (outgoing-right e) (k .1 .1 .1 .1 .1 .0);
+      incoming-right = not-false (incoming-right e) (k .1 .1 .1 .1 .1 .1 .0);
     }
 
 -- true joined with true
@@ -75,12 +72,13 @@ join : {a b : Bool} → a ≡ true → b ≡ true → a && b ≡ true
 join {a} {b} h k = ap (λ (x : Bool). x && b) h ∙ k
 
 pub whole : (e : Entry) → Rules e → legal e ≡ true
-unfolding legal names-formed unused-zero counts-right
+unfolding list names-formed unused-zero counts-right
 whole e p =
-    join (join (join (join (join (join
-    (join (join (join (p .identity-filled) (p .name-filled)) (p .outgoing-named)) (p .incoming-named))
-    (join (join (p .form-clean) (p .outgoing-clean)) (p .incoming-clean)))
-    (p .top-odd)) (join (p .next-right) (p .expected-right))) (p .idle-right)) (p .outgoing-right)) (p .incoming-right)
+    let names = join (join (join (p .identity-filled) (p .name-filled)) (p .outgoing-named)) (p .incoming-named) in
+    let unused = join (join (p .form-clean) (p .outgoing-clean)) (p .incoming-clean) in
+    let counts = join (p .next-right) (p .expected-right) in
+    kept-legal e
+    (names and unused and p .top-odd and counts and p .idle-right and p .outgoing-right and p .incoming-right and tt)
 
 -- ---- counts and phases
 
@@ -100,12 +98,16 @@ risen-below n h = rw (lt-ltb n limit h)
 sent : (e : Entry) → Rules e → e .phase ≡ waiting → 2 ≤ e .next
 unfolding idle-right
 sent e p w =
-    let h : not (eqb (e .next) 1) ≡ true = rw w at (p .idle-right) in
+    let h : exactly false (eqb (e .next) 1) ≡ true = rw w at (p .idle-right) in
     let l = within-both 1 limit (e .next) (p .next-right) in
-    omega (arith, eqb-false (e .next) 1 (not-true (eqb (e .next) 1) h), l .0)
+    omega (arith, eqb-false (e .next) 1 (neither (eqb (e .next) 1) h), l .0)
+  where
+    neither : (b : Bool) → exactly false b ≡ true → b ≡ false
+    neither true h = sym h
+    neither false h = refl
 
 keyed : (e : Entry) → Rules e → e .phase ≡ waiting → within 1 2 (e .outgoing .count) ≡ true
-unfolding outgoing-right
+unfolding outgoing-right keys-if
 keyed e p w = rw w at (p .outgoing-right)
 
 -- ---- key sets
@@ -134,7 +136,7 @@ two-formed k l g h = rw (g, h)
 
 pub loaded-legal : (identity name : Name) (top : Top) → is-filled (identity .bytes) ≡ true
     → is-filled (name .bytes) ≡ true → odd-top top ≡ true → legal (loaded identity name top) ≡ true
-unfolding loaded form-clean top-odd top-of set-named set-clean is-unused idle-right outgoing-right incoming-right
+unfolding loaded form-clean top-odd top-of set-named set-clean is-unused idle-right keys-if outgoing-right incoming-right
 loaded-legal identity name top a b c = whole (loaded identity name top) (record {
   identity-filled = a;
   name-filled = b;
@@ -162,7 +164,7 @@ loaded-legal identity name top a b c = whole (loaded identity name top) (record 
 -- the receiving side anew, with keys
 received : (e : Entry) (n : ℕ) (set : KeySet) → legal e ≡ true → 2 ≤ n → n ≤ limit → Formed set
     → legal (receiving e n set) ≡ true
-unfolding receiving form-clean top-odd top-of idle-right outgoing-right incoming-right
+unfolding receiving form-clean top-odd top-of idle-right keys-if outgoing-right incoming-right
 received e n set h l m f = let p = rules e h in whole (receiving e n set) (record {
   identity-filled = p .identity-filled;
   name-filled = p .name-filled;
@@ -181,8 +183,8 @@ received e n set h l m f = let p = rules e h in whole (receiving e n set) (recor
 
 -- the sending side anew, in a phase other than 0
 sent-legal : (e : Entry) (n phase : ℕ) (set : KeySet) → legal e ≡ true → set-named set ≡ true → set-clean set ≡ true
-    → 2 ≤ n → n ≤ limit → exactly (eqb phase 0) false ≡ true
-    → (leb phase 3 && cond (within 1 2 phase) (within 1 2 (set .count)) (eqb (set .count) 0)) ≡ true
+    → 2 ≤ n → n ≤ limit → exactly (eqb phase idle) false ≡ true
+    → (leb phase broken && keys-if (eqb phase waiting || eqb phase confirmed) set) ≡ true
     → legal (sending e n phase set) ≡ true
 unfolding sending form-clean top-odd top-of idle-right outgoing-right incoming-right
 sent-legal e n phase set h a b l m i o = let p = rules e h in whole (sending e n phase set) (record {
@@ -210,7 +212,7 @@ accepted-legal e count keys h l m f =
 
 pub issued-legal : (e : Entry) (keys : KeySet) → legal e ≡ true → e .next < limit → keys-formed keys ≡ true
     → legal (issued e keys) ≡ true
-unfolding issued
+unfolding issued keys-if
 issued-legal e keys h m f =
     let l = within-both 1 limit (e .next) (rules e h .next-right) in
     let r = risen-below (e .next) m in
@@ -219,7 +221,7 @@ issued-legal e keys h m f =
     refl (k .count)
 
 pub settled-legal : (e : Entry) → legal e ≡ true → e .phase ≡ waiting → legal (settled e) ≡ true
-unfolding settled
+unfolding settled keys-if
 settled-legal e h w =
     let p = rules e h in
     sent-legal e (e .next) confirmed (e .outgoing) h (p .outgoing-named) (p .outgoing-clean) (sent e p w)
@@ -227,7 +229,7 @@ settled-legal e h w =
 
 -- broken, with no keys
 broken-legal : (e : Entry) (n : ℕ) → legal e ≡ true → 2 ≤ n → n ≤ limit → legal (sending e n broken no-keys) ≡ true
-unfolding set-named set-clean is-unused
+unfolding set-named set-clean is-unused keys-if
 broken-legal e n h l m = sent-legal e n broken no-keys h refl refl l m refl refl
 
 pub given-up-legal : (e : Entry) → legal e ≡ true → e .phase ≡ waiting → legal (given-up e) ≡ true

@@ -1,7 +1,8 @@
 pub mod Naming
-pub mod Testing
 pub mod Storing
+pub mod Ruling
 pub mod Keeping
+pub mod Tabling
 pub mod Fielding
 pub mod Joining
 pub mod Holding

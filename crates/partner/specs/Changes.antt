@@ -5,7 +5,7 @@ use Rattle.keying.specs.declared.Top.the-variants.{Single, Pair}
 use Rattle.partner.specs.declared.Name.{Name}
 use Rattle.partner.specs.declared.KeySet.{KeySet}
 use Rattle.partner.specs.declared.Entry.{Entry}
-use Rattle.partner.specs.Entry.{risen, idle, waiting, confirmed, broken, no-keys}
+use Rattle.partner.specs.Entry.{risen, idle, waiting, confirmed, broken, single, pair, no-keys}
 
 -- the sending side anew: next send count, phase, outgoing keys
 unfoldable pub sending : Entry → ℕ → ℕ → KeySet → Entry
@@ -39,8 +39,8 @@ receiving e expected incoming = record {
 
 -- a top key's form and halves, a single key's second half zero
 abbrev pub form-of : Top → ℕ
-form-of (Single key) = 1
-form-of (Pair left right) = 2
+form-of (Single key) = single
+form-of (Pair left right) = pair
 
 abbrev pub left-of : Top → ℕ
 left-of (Single key) = key

@@ -1,10 +1,12 @@
 -- What is claimed of an entry; proved as `claims` in proofs/Claims.antt.
 use mathlib.Core.Path.{_≡_}
 use mathlib.Core.Bool.{true, false}
+use mathlib.Core.Logic.{_↔_}
 use Prim.Native.Nat.{ℕ, _+_, _<_, _≤_}
 use lib.ListN.{length}
 use Rattle.octets.specs.Text.{Text, is-name}
 use Rattle.octets.specs.Part.{bare, all-octets}
+use Rattle.octets.specs.First.{Passed, Given}
 use Rattle.keying.specs.declared.Top.{Top}
 use Rattle.keying.specs.Keys.{odd-top}
 use Rattle.partner.specs.declared.Name.{Name}
@@ -12,10 +14,12 @@ use Rattle.partner.specs.declared.DataKey.{DataKey}
 use Rattle.partner.specs.declared.KeySet.{KeySet}
 use Rattle.partner.specs.declared.Entry.{Entry}
 use Rattle.partner.specs.Entry.{blanks, filled, limit, risen, waiting, no-keys, one-key, two-keys, top-of}
-use Rattle.partner.specs.Legal.{is-filled, is-named, keys-formed, legal}
+use Rattle.partner.specs.Legal.{is-filled, is-named, keys-formed, rules, broken, legal}
 use Rattle.partner.specs.Changes.{loaded, accepted, issued, settled, given-up, failed}
 use Rattle.partner.specs.Record.{entry-bytes, entry-in}
 use Rattle.partner.specs.Held.{Held}
+use Rattle.partner.specs.Table.{Table}
+use Rattle.partner.specs.Table as tables
 
 -- ---- what each change makes of an entry, field by field
 
@@ -87,6 +91,13 @@ pub record Claims : Type 0 where
   -- next send becomes the larger of itself and x
   pub failed-below : (e : Entry) (x : ℕ) → x ≤ e .next → Breaks e (e .next) (failed e x)
   pub failed-above : (e : Entry) (x : ℕ) → e .next ≤ x → Breaks e x (failed e x)
+  -- a rule's number is given exactly when that rule is broken and none earlier is
+  pub broken-exactly : (e : Entry) (n : ℕ) → (n ≡ 0 → ⊥) → (broken e ≡ n) ↔ Given (rules e) n
+  -- legal is none broken
+  pub legal-exactly : (e : Entry) → (legal e ≡ true) ↔ Passed (rules e)
+  -- and so for a table
+  pub table-broken-exactly : (t : Table) (n : ℕ) → (n ≡ 0 → ⊥) → (tables.broken t ≡ n) ↔ Given (tables.rules t) n
+  pub table-legal-exactly : (t : Table) → (tables.legal t ≡ true) ↔ Passed (tables.rules t)
   -- a change leaves a legal entry
   pub loaded-is-legal : (identity name : Name) (top : Top) → is-filled (identity .bytes) ≡ true
       → is-filled (name .bytes) ≡ true → odd-top top ≡ true → legal (loaded identity name top) ≡ true

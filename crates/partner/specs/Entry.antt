@@ -48,11 +48,19 @@ confirmed = 2
 abbrev pub broken : ℕ
 broken = 3
 
+-- ---- key forms
+
+abbrev pub single : ℕ
+single = 1
+
+abbrev pub pair : ℕ
+pair = 2
+
 -- ---- keys
 
 -- the top key, single or pair
 unfoldable pub top-of : Entry → Top
-top-of e = cond (eqb (e .form) 2) (Pair (e .left) (e .right)) (Single (e .left))
+top-of e = cond (eqb (e .form) pair) (Pair (e .left) (e .right)) (Single (e .left))
 
 -- the data keys of a set with their names, and the keys alone
 unfoldable pub places : KeySet → List DataKey

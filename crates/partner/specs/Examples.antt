@@ -2,10 +2,12 @@
 -- image"). Proved as `examples` in proofs/Examples.antt.
 use mathlib.Core.Path.{_≡_}
 use mathlib.Core.Bool.{true, false}
-use mathlib.Core.List.{[], _∷_, _++_}
+use mathlib.Core.List.{List, [], _∷_, _++_}
 use Prim.Native.Nat.{ℕ}
 use Prim.Native.String.{String}
+use lib.Dec.{eqb}
 use Rattle.octets.specs.Text.{Text, ascii}
+use Rattle.octets.specs.First.{Order}
 use Rattle.keying.specs.declared.Top.the-variants.{Single, Pair}
 use Rattle.partner.specs.declared.Name.{Name}
 use Rattle.partner.specs.declared.DataKey.{DataKey}
@@ -13,8 +15,10 @@ use Rattle.partner.specs.declared.KeySet.{KeySet}
 use Rattle.partner.specs.declared.Entry.{Entry}
 use Rattle.partner.specs.Entry as entries
 use Rattle.partner.specs.Entry.{filled, top-of, keys-in}
-use Rattle.partner.specs.Legal.{legal}
+use Rattle.partner.specs.Legal.{rules, broken, legal}
 use Rattle.partner.specs.Record.{entry-bytes, entry-in}
+use Rattle.partner.specs.Table.{Table, empties}
+use Rattle.partner.specs.Table as tables
 
 -- ---- entries by their fields, names as their 16 bytes
 
@@ -124,6 +128,28 @@ sending next phase outgoing = entry mill top 2 L R next 0x05060708 phase outgoin
 abbrev pub receiving : ℕ → KeySet → Entry
 receiving expected incoming = entry mill top 2 L R 0x01020304 expected 2 sent incoming
 
+-- ---- a rule that is broken alone
+
+-- the rules with that one broken and no other
+abbrev pub only : ℕ → Order
+only n =
+    (eqb n 3, 3)
+    ∷ (eqb n 4, 4)
+    ∷ (eqb n 5, 5)
+    ∷ (eqb n 6, 6)
+    ∷ (eqb n 7, 7)
+    ∷ (eqb n 8, 8)
+    ∷ (eqb n 9, 9)
+    ∷ []
+
+pub record Breaks-alone (n : ℕ) (e : Entry) : Type 0 where
+  pub alone : rules e ≡ only n
+  pub number : broken e ≡ n
+
+-- HARBOR's table with these slots
+abbrev pub table : List Entry → Table
+table slots = record { own = ascii "HARBOR          "; slots = slots }
+
 pub record Examples : Type 0 where
   -- identity 16, key name 16, key form 1, top key 16, next send 4, expected 4, phase 1, outgoing 49, incoming 49
   pub whole-written : entry-bytes whole ≡ whole-bytes
@@ -142,6 +168,25 @@ pub record Examples : Type 0 where
   -- legal
   pub whole-is-legal : legal whole ≡ true
   pub slight-is-legal : legal slight ≡ true
+  -- each rule broken alone, and its number
+  pub rule-3 : Breaks-alone 3 (named mill blanks)
+  pub rule-4 : Breaks-alone 4 (under 1 L R)
+  pub rule-5 : Breaks-alone 5 (under 1 0x0123456789ABCDEE 0)
+  pub rule-6 : Breaks-alone 6 (sending 100_000_000 1 one-set)
+  pub rule-7 : Breaks-alone 7 (sending 2 0 no-set)
+  pub rule-8 : Breaks-alone 8 (sending 2 1 no-set)
+  pub rule-9 : Breaks-alone 9 (receiving 2 no-set)
+  -- none broken, and the first of two
+  pub no-rule : broken whole ≡ 0
+  pub first-of-two : broken (sending 0 0 no-set) ≡ 6
+  -- the table's own rules
+  pub table-without-slots : tables.broken (table []) ≡ 1
+  pub empty-slot-with-a-key-name : tables.broken (table (named zeros top ∷ empties 63)) ≡ 2
+  pub own-name-missing : tables.broken (record { own = ascii "                "; slots = empties 64 }) ≡ 3
+  pub slot-with-a-broken-rule : tables.broken (table (whole ∷ receiving 2 no-set ∷ empties 62)) ≡ 9
+  pub one-identity-twice : tables.broken (table (whole ∷ slight ∷ empties 62)) ≡ 10
+  pub our-own-identity : tables.broken (table (named (name "HARBOR          ") top ∷ empties 63)) ≡ 10
+  pub table-of-one : tables.broken (table (whole ∷ empties 63)) ≡ 0
   -- well-formed names and identities
   pub identity-of-16 : legal (named (name "ABCDEFGHIJKLMNOP") top) ≡ true
   pub no-identity : legal (named blanks top) ≡ false

@@ -1,20 +1,24 @@
--- When an entry is legal by itself: document 01's list ("Stored image"), each rule by its name and in the list's order.
-use mathlib.Core.Bool.{Bool, true, false, cond, not, _&&_, _||_}
+-- When an entry is legal by itself: document 01's list ("Stored image"), each rule by its name, in the list's order and
+-- with its number there; 1, 2 and 10 are the table's.
+use mathlib.Core.Bool.{Bool, Bool·beq, cond, not, _&&_, _||_}
+use mathlib.Core.List.{[], _∷_}
+use Prim.Native.Nat.{ℕ}
 use lib.Dec.{eqb, ltb, leb}
 use Rattle.octets.specs.Text.{Text, same, within, is-name}
 use Rattle.octets.specs.Part.{bare}
+use Rattle.octets.specs.First.{Order, first}
 use Rattle.keying.specs.Keys.{odd-top}
 use Rattle.partner.specs.declared.DataKey.{DataKey}
 use Rattle.partner.specs.declared.KeySet.{KeySet}
 use Rattle.partner.specs.declared.Entry.{Entry}
-use Rattle.partner.specs.Entry.{blanks, filled, limit, top-of, zero-name}
+use Rattle.partner.specs.Entry.{blanks, filled, limit, top-of, zero-name, single, pair}
+use Rattle.partner.specs.Entry as phase
 
 -- both hold, or neither
 abbrev pub exactly : Bool → Bool → Bool
-exactly true b = b
-exactly false b = not b
+exactly a b = Bool·beq a b
 
--- ---- well-formed names and identities
+-- ---- 3: well-formed names and identities
 
 -- 1 to 16 characters, and nothing but blanks after them
 unfoldable pub is-filled : Text → Bool
@@ -34,7 +38,7 @@ names-formed e =
     is-filled (e .identity .bytes) && is-filled (e .name .bytes)
     && set-named (e .outgoing) && set-named (e .incoming)
 
--- ---- unused bytes: a single key's second half and unused key places are zero
+-- ---- 4: unused bytes: a single key's second half and unused key places are zero
 
 unfoldable pub is-unused : DataKey → Bool
 is-unused k = eqb (k .key) 0 && same (k .name .bytes) (zero-name .bytes)
@@ -47,43 +51,62 @@ set-clean set =
 unfoldable pub keys-formed : KeySet → Bool
 keys-formed set = within 1 2 (set .count) && set-named set && set-clean set
 
--- key form 2, or 1 with no second half
+-- a pair, or a single key with no second half
 unfoldable pub form-clean : Entry → Bool
-form-clean e = eqb (e .form) 2 || eqb (e .form) 1 && eqb (e .right) 0
+form-clean e = eqb (e .form) pair || eqb (e .form) single && eqb (e .right) 0
 
 unfoldable pub unused-zero : Entry → Bool
 unused-zero e = form-clean e && set-clean (e .outgoing) && set-clean (e .incoming)
 
--- ---- odd parity of the top key halves in use
+-- ---- 5: odd parity of the top key halves in use
 
 unfoldable pub top-odd : Entry → Bool
 top-odd e = odd-top (top-of e)
 
--- ---- counts 1 to 99,999,999
+-- ---- 6: counts 1 to 99,999,999
 
 unfoldable pub counts-right : Entry → Bool
 counts-right e = within 1 limit (e .next) && within 1 limit (e .expected)
 
--- ---- phase 0 exactly when next send is 1
+-- ---- 7: phase 0 exactly when next send is 1
 
 unfoldable pub idle-right : Entry → Bool
-idle-right e = exactly (eqb (e .phase) 0) (eqb (e .next) 1)
+idle-right e = exactly (eqb (e .phase) phase.idle) (eqb (e .next) 1)
 
--- ---- one or two outgoing keys in phases 1 and 2 and none in 0 and 3
+-- ---- 8: one or two outgoing keys in phases 1 and 2 and none in 0 and 3
+
+-- one or two keys if so, and none if not
+unfoldable pub keys-if : Bool → KeySet → Bool
+keys-if so set = cond so (within 1 2 (set .count)) (eqb (set .count) 0)
 
 unfoldable pub outgoing-right : Entry → Bool
 outgoing-right e =
-    leb (e .phase) 3
-    && cond (within 1 2 (e .phase)) (within 1 2 (e .outgoing .count)) (eqb (e .outgoing .count) 0)
+    leb (e .phase) phase.broken
+    && keys-if (eqb (e .phase) phase.waiting || eqb (e .phase) phase.confirmed) (e .outgoing)
 
--- ---- incoming keys exactly when expected exceeds 1
+-- ---- 9: incoming keys exactly when expected exceeds 1
 
 unfoldable pub incoming-right : Entry → Bool
-incoming-right e = cond (ltb 1 (e .expected)) (within 1 2 (e .incoming .count)) (eqb (e .incoming .count) 0)
+incoming-right e = keys-if (ltb 1 (e .expected)) (e .incoming)
 
--- ---- all of them
+-- ---- the list
 
+-- that a rule is broken, with its number
+unfoldable pub rules : Entry → Order
+rules e =
+    (not (names-formed e), 3)
+    ∷ (not (unused-zero e), 4)
+    ∷ (not (top-odd e), 5)
+    ∷ (not (counts-right e), 6)
+    ∷ (not (idle-right e), 7)
+    ∷ (not (outgoing-right e), 8)
+    ∷ (not (incoming-right e), 9)
+    ∷ []
+
+-- the number of the first rule that is broken, 0 where none is
+unfoldable pub broken : Entry → ℕ
+broken e = first (rules e)
+
+-- none is
 unfoldable pub legal : Entry → Bool
-legal e =
-    names-formed e && unused-zero e && top-odd e && counts-right e && idle-right e && outgoing-right e
-    && incoming-right e
+legal e = eqb (broken e) 0

@@ -3,16 +3,23 @@ ghost use mathlib.Core.Path.{_≡_};
 ghost use Prim.Native.Nat.{max};
 ghost use Rattle.partner.specs.Entry as entry;
 ghost use Rattle.partner.specs.Changes as change;
+use crate::BROKEN;
+use crate::CONFIRMED;
 use crate::Entry;
+use crate::IDLE;
 use crate::KeySet;
+use crate::LIMIT;
 use crate::Name;
+use crate::PAIR;
+use crate::SINGLE;
+use crate::WAITING;
 use keying::Top;
 
 // One more, and no further than 99,999,999.
 fn risen(n: u32) -> u32
     ensures { λ r. ⌜ r ≡ entry.risen n ⌝ }
 {
-    if n < 99_999_999 { n + 1 } else { 99_999_999 }
+    if n < LIMIT { n + 1 } else { LIMIT }
 }
 
 // The larger of the two.
@@ -48,8 +55,8 @@ fn form_of(top: Top) -> u8
     ensures { λ r. ⌜ r ≡ change.form-of top ⌝ }
 {
     match top {
-        Top::Single(_) => 1,
-        Top::Pair(_, _) => 2,
+        Top::Single(_) => SINGLE,
+        Top::Pair(_, _) => PAIR,
     }
 }
 
@@ -86,7 +93,7 @@ pub fn loaded(identity: Name, name: Name, top: Top) -> Entry
         right: right_of(top),
         next: 1,
         expected: 1,
-        phase: 0,
+        phase: IDLE,
         outgoing: keys,
         incoming: keys,
     }
@@ -103,26 +110,26 @@ pub fn accepted(e: Entry, count: u32, keys: KeySet) -> Entry
 pub fn issued(e: Entry, keys: KeySet) -> Entry
     ensures { λ r. ⌜ r ≡ change.issued e keys ⌝ }
 {
-    sending(e, risen(e.next), 1, keys)
+    sending(e, risen(e.next), WAITING, keys)
 }
 
 // An RSM is taken: phase 2.
 pub fn settled(e: Entry) -> Entry
     ensures { λ r. ⌜ r ≡ change.settled e ⌝ }
 {
-    sending(e, e.next, 2, e.outgoing)
+    sending(e, e.next, CONFIRMED, e.outgoing)
 }
 
 // Given up, or an ESM without counts: phase 3 and keys wiped.
 pub fn given_up(e: Entry) -> Entry
     ensures { λ r. ⌜ r ≡ change.given-up e ⌝ }
 {
-    sending(e, e.next, 3, crate::no_keys())
+    sending(e, e.next, BROKEN, crate::no_keys())
 }
 
 // An ESM with CTP x: besides, next send becomes the larger of itself and x.
 pub fn failed(e: Entry, x: u32) -> Entry
     ensures { λ r. ⌜ r ≡ change.failed e x ⌝ }
 {
-    sending(e, larger(e.next, x), 3, crate::no_keys())
+    sending(e, larger(e.next, x), BROKEN, crate::no_keys())
 }

@@ -17,8 +17,30 @@ use keying::DataKeys;
 use keying::Top;
 pub use record::entry_in;
 pub use record::put_entry;
+pub use rules::broken;
 pub use rules::is_filled;
 pub use rules::legal;
+
+// Counts end here.
+pub const LIMIT: u32 = 99_999_999;
+
+// Phase: no key message was sent.
+pub const IDLE: u8 = 0;
+
+// Phase: a key message waits for its answer.
+pub const WAITING: u8 = 1;
+
+// Phase: the key message was confirmed.
+pub const CONFIRMED: u8 = 2;
+
+// Phase: the key message failed or was given up.
+pub const BROKEN: u8 = 3;
+
+// Key form: one key.
+pub const SINGLE: u8 = 1;
+
+// Key form: two halves.
+pub const PAIR: u8 = 2;
 
 // A name or an identity, filled with blanks.
 pub struct Name {
@@ -68,7 +90,7 @@ pub fn name_of(w: &[u8]) -> Name
 pub fn top_of(e: Entry) -> Top
     ensures { λ r. ⌜ r ≡ entry.top-of e ⌝ }
 {
-    if e.form == 2 {
+    if e.form == PAIR {
         Top::Pair(e.left, e.right)
     } else {
         Top::Single(e.left)

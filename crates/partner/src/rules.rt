@@ -1,22 +1,27 @@
 // When an entry is legal by itself: the rules of document 01's list, in its order.
 ghost use mathlib.Core.Path.{_≡_};
+ghost use mathlib.Core.Bool.{_||_};
 ghost use Rattle.octets.specs.Text.{within};
 ghost use Rattle.partner.specs.Legal as rule;
+use crate::BROKEN;
+use crate::CONFIRMED;
 use crate::DataKey;
 use crate::Entry;
+use crate::IDLE;
 use crate::KeySet;
+use crate::LIMIT;
 use crate::Name;
+use crate::PAIR;
+use crate::SINGLE;
+use crate::WAITING;
 
 // Whether a text is a name filled with blanks.
 pub fn is_filled(s: &[u8]) -> bool
     ensures { λ r. ⌜ r ≡ rule.is-filled (now (s .entry)) ⌝ }
 {
     let w = octets::bare(s);
-    if !octets::is_name(w) {
-        return false;
-    }
     let name = crate::name_of(w);
-    octets::same(s, &name.bytes)
+    octets::is_name(w) & octets::same(s, &name.bytes)
 }
 
 // Whether a name is one filled with blanks.
@@ -34,36 +39,25 @@ fn is_named(k: DataKey) -> bool
     octets::same(&name.bytes, b"                ") || is_filled(&name.bytes)
 }
 
+// Whether a key place is unused, or its key has a name or none.
+fn place_named(unused: bool, k: DataKey) -> bool
+    ensures { λ r. ⌜ r ≡ (unused || rule.is-named k) ⌝ }
+{
+    unused || is_named(k)
+}
+
 // Whether the names of a set's keys are well-formed.
 fn set_named(set: KeySet) -> bool
     ensures { λ r. ⌜ r ≡ rule.set-named set ⌝ }
 {
-    if set.count < 1 {
-        return true;
-    }
-    if !is_named(set.first) {
-        return false;
-    }
-    if set.count < 2 {
-        return true;
-    }
-    is_named(set.second)
+    place_named(set.count < 1, set.first) & place_named(set.count < 2, set.second)
 }
 
 // Well-formed names and identities.
 fn names_formed(e: Entry) -> bool
     ensures { λ r. ⌜ r ≡ rule.names-formed e ⌝ }
 {
-    if !name_filled(e.identity) {
-        return false;
-    }
-    if !name_filled(e.name) {
-        return false;
-    }
-    if !set_named(e.outgoing) {
-        return false;
-    }
-    set_named(e.incoming)
+    name_filled(e.identity) & name_filled(e.name) & set_named(e.outgoing) & set_named(e.incoming)
 }
 
 // Whether a key place is zero in all its bytes.
@@ -79,39 +73,23 @@ fn is_unused(k: DataKey) -> bool
 fn set_clean(set: KeySet) -> bool
     ensures { λ r. ⌜ r ≡ rule.set-clean set ⌝ }
 {
-    if 2 <= set.count {
-        return true;
-    }
-    if !is_unused(set.second) {
-        return false;
-    }
-    if 1 <= set.count {
-        return true;
-    }
-    is_unused(set.first)
+    let first = (1 <= set.count) | is_unused(set.first);
+    let second = (2 <= set.count) | is_unused(set.second);
+    first & second
 }
 
 // Key form 1 or 2, a single key's second half zero.
 fn form_clean(e: Entry) -> bool
     ensures { λ r. ⌜ r ≡ rule.form-clean e ⌝ }
 {
-    if e.form == 2 {
-        return true;
-    }
-    e.form == 1 && e.right == 0
+    (e.form == PAIR) | (e.form == SINGLE) & (e.right == 0)
 }
 
 // Unused bytes: a single key's second half and unused key places are zero.
 fn unused_zero(e: Entry) -> bool
     ensures { λ r. ⌜ r ≡ rule.unused-zero e ⌝ }
 {
-    if !form_clean(e) {
-        return false;
-    }
-    if !set_clean(e.outgoing) {
-        return false;
-    }
-    set_clean(e.incoming)
+    form_clean(e) & set_clean(e.outgoing) & set_clean(e.incoming)
 }
 
 // Odd parity of the top key halves in use.
@@ -125,72 +103,65 @@ fn top_odd(e: Entry) -> bool
 fn within(low: u32, high: u32, x: u32) -> bool
     ensures { λ r. ⌜ r ≡ within low high x ⌝ }
 {
-    low <= x && x <= high
+    (low <= x) & (x <= high)
 }
 
 // Counts 1 to 99,999,999.
 fn counts_right(e: Entry) -> bool
     ensures { λ r. ⌜ r ≡ rule.counts-right e ⌝ }
 {
-    within(1, 99_999_999, e.next) && within(1, 99_999_999, e.expected)
+    within(1, LIMIT, e.next) & within(1, LIMIT, e.expected)
 }
 
 // Phase 0 exactly when next send is 1.
 fn idle_right(e: Entry) -> bool
     ensures { λ r. ⌜ r ≡ rule.idle-right e ⌝ }
 {
-    if e.phase == 0 {
-        return e.next == 1;
+    (e.phase == IDLE) == (e.next == 1)
+}
+
+// One or two keys if so, and none if not.
+fn keys_if(so: bool, set: KeySet) -> bool
+    ensures { λ r. ⌜ r ≡ rule.keys-if so set ⌝ }
+{
+    if so {
+        within(1, 2, set.count as u32)
+    } else {
+        set.count == 0
     }
-    e.next != 1
 }
 
 // One or two outgoing keys in phases 1 and 2 and none in 0 and 3.
 fn outgoing_right(e: Entry) -> bool
     ensures { λ r. ⌜ r ≡ rule.outgoing-right e ⌝ }
 {
-    let keys = e.outgoing;
-    if 3 < e.phase {
-        return false;
-    }
-    if within(1, 2, e.phase as u32) {
-        return within(1, 2, keys.count as u32);
-    }
-    keys.count == 0
+    let keyed = (e.phase == WAITING) | (e.phase == CONFIRMED);
+    (e.phase <= BROKEN) & keys_if(keyed, e.outgoing)
 }
 
 // Incoming keys exactly when expected exceeds 1.
 fn incoming_right(e: Entry) -> bool
     ensures { λ r. ⌜ r ≡ rule.incoming-right e ⌝ }
 {
-    let keys = e.incoming;
-    if 1 < e.expected {
-        return within(1, 2, keys.count as u32);
-    }
-    keys.count == 0
+    keys_if(1 < e.expected, e.incoming)
 }
 
-// All of them.
+// The number of the first rule that is broken, 0 where none is.
+pub fn broken(e: Entry) -> u32
+    ensures { λ r. ⌜ r ≡ rule.broken e ⌝ }
+{
+    let n = octets::then(0, !names_formed(e), 3);
+    let n = octets::then(n, !unused_zero(e), 4);
+    let n = octets::then(n, !top_odd(e), 5);
+    let n = octets::then(n, !counts_right(e), 6);
+    let n = octets::then(n, !idle_right(e), 7);
+    let n = octets::then(n, !outgoing_right(e), 8);
+    octets::then(n, !incoming_right(e), 9)
+}
+
+// Whether none is.
 pub fn legal(e: Entry) -> bool
     ensures { λ r. ⌜ r ≡ rule.legal e ⌝ }
 {
-    if !names_formed(e) {
-        return false;
-    }
-    if !unused_zero(e) {
-        return false;
-    }
-    if !top_odd(e) {
-        return false;
-    }
-    if !counts_right(e) {
-        return false;
-    }
-    if !idle_right(e) {
-        return false;
-    }
-    if !outgoing_right(e) {
-        return false;
-    }
-    incoming_right(e)
+    broken(e) == 0
 }

@@ -77,6 +77,12 @@ module _ (own : Text) (e : Entry) (t : Text) where
 pub replied-as : (t u : Turn) (l : Text) → t ≡ u → replied (t .outcome) l ≡ replied (u .outcome) l
 replied-as t u l h = ap (λ (v : Turn). replied (v .outcome) l) h
 
+-- that reply over the front of the buffer
+pub fronts : (t u : Turn) (l : Text) → t ≡ u
+    → t .outcome .reply ++ drop (length (t .outcome .reply)) l ≡ replied (u .outcome) l
+unfolding replied
+fronts t u l h = replied-as t u l h
+
 -- no reply: the buffer as it was
 pub unreplied : (t u : Turn) (l : Text) → t .outcome .reply ≡ [] → t ≡ u → l ≡ replied (u .outcome) l
 unfolding replied

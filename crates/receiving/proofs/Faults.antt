@@ -7,7 +7,7 @@ use Prim.Native.Nat.{ℕ, _+_, _≤_}
 use native.Mathlib.Omega.{arith}
 use lib.Dec.{eqb}
 use lib.ListN.{length}
-use borrow.Author.Tests.{eq-eqb, ne-eqb}
+use borrow.Author.Tests.{ne-eqb}
 use Rattle.octets.specs.Text.{Text}
 use Rattle.keying.specs.Date.{is-date}
 use Rattle.csm.specs.Fields.{nonempty}
@@ -17,17 +17,17 @@ use Rattle.reader.specs.Parts as parts
 use Rattle.partner.specs.declared.KeySet.{KeySet}
 use Rattle.partner.specs.declared.Entry.{Entry}
 use Rattle.partner.specs.Entry.{keys-in}
-use Rattle.calls.specs.Words.{if_then_else_, some-has}
+use Rattle.calls.specs.Words.{some-has}
 use Rattle.calls.specs.Receive as steps
-use Rattle.calls.specs.Outcome.{F, M, P}
+use Rattle.calls.specs.Outcome.{F, M, P, success, keys}
 use Rattle.calls.specs.Receive.{iv-value, iv-of, when, faults}
-use Rattle.outcome.specs.declared.Handed.{Handed}
-use Rattle.outcome.specs.Report.{handed, or-zero}
+use Rattle.outcome.specs.Report.{report, or-zero, date-of}
 use Rattle.receiving.specs.declared.judging.Value.{Value}
-use Rattle.receiving.specs.declared.judging.Judged.the-variants.{Good, Error}
-use Rattle.receiving.specs.Texts.{ksm-in}
-use Rattle.receiving.specs.Stages.{value-of, is-value, bad-iv, bad-format, bad-mac, judged, handed-out}
+use Rattle.receiving.specs.Texts.{ksm-in, Ksm-read}
+use Rattle.receiving.specs.Stages.{value-of, value-told, is-value, bad-iv, bad-format, bad-mac}
+use Rattle.receiving.specs.Stages.{date-over, handed-out}
 use Rattle.receiving.proofs.Missing.{nonempty-none, nonempty-some}
+use Rattle.receiving.proofs.Reading.{date-same}
 
 -- ---- F
 
@@ -77,19 +77,24 @@ module _ (set : KeySet) (m : Ksm) (iv edk : Text) (i : m .iv ≡ nonempty iv) (d
   -- ---- what is handed out
 
   -- what the steps tell of IV and date
-  pub handed-same : (b : Bool) → b ≡ not (eqb (length edk) 0)
-      → handed-out (value-of (iv-value (keys-in set) iv)) b ≡ handed (iv-of set m) (m .edk)
-  unfolding iv-value
-  handed-same b h =
-      out (iv-value (keys-in set) iv) b
-      ∙ ap (λ o. record { vector = found o; iv = or-zero o; dated = b }) vector
-      ∙ ap (λ b. record { vector = found (iv-of set m); iv = or-zero (iv-of set m); dated = b }) (h ∙ dated edk
-      ∙ ap found (sym d))
+  pub handed-same : date-over edk ≡ date-of (m .edk)
+      → handed-out (value-of (iv-value (keys-in set) iv)) edk ≡ report (success [] (keys (iv-of set m) (m .edk)))
+  unfolding report iv-value
+  handed-same date = λ i. record {
+    answer = 0;
+    letters = 0;
+    length = 0;
+    class = 2;
+    service = 0;
+    vector = (value-found (iv-value (keys-in set) iv) ∙ ap found vector) i;
+    iv = (told (iv-value (keys-in set) iv) ∙ ap or-zero vector) i;
+    dated = (dated edk ∙ ap found (sym d)) i;
+    date = date i;
+  }
     where
-      out : (o : Option ℕ) (b : Bool)
-          → handed-out (value-of o) b ≡ record { vector = found o; iv = or-zero o; dated = b }
-      out none b = refl
-      out (some n) b = refl
+      told : (o : Option ℕ) → value-told (value-of o) ≡ or-zero o
+      told none = refl
+      told (some n) = refl
 
       dated : (w : Text) → not (eqb (length w) 0) ≡ found (nonempty w)
       dated [] = refl
@@ -105,43 +110,25 @@ module _ (set : KeySet) (m : Ksm) (iv edk : Text) (i : m .iv ≡ nonempty iv) (d
 
 -- ---- all of them
 
--- some letter holds
-pub judged-error : (e : Entry) (set : KeySet) (t : Text) (m : Ksm) (n : ℕ) → n ≡ faults e set t m → (n ≡ 0 → ⊥)
-    → Error n ≡ judged e set t m
-unfolding judged if_then_else_
-judged-error e set t m n h k = rw (← h, ne-eqb n 0 k)
-
--- no letter holds
-pub judged-good : (e : Entry) (set : KeySet) (t : Text) (m : Ksm) (n : ℕ) → n ≡ faults e set t m → n ≡ 0
-    → Good (handed (iv-of set m) (m .edk)) ≡ judged e set t m
-unfolding judged if_then_else_
-judged-good e set t m n h k = rw (← h, eq-eqb n 0 k)
-
--- in the code's values: the value of the IV, and the three letters
+-- in the code's values: the value of the IV, the three letters, what is handed out
 module _ (e : Entry) (set : KeySet) (m : reader.Ksm) (t : Text) (v : Value)
-    (is : v ≡ value-of (iv-value (keys-in set) (parts.iv m t))) (x y z : ℕ)
-    (format : x ≡ when (bad-format (parts.iv m t) v (parts.edk m t)) F)
-    (mac : y ≡ when (bad-mac (keys-in set) t (m .mac)) M)
-    (count : z ≡ when (steps.bad-count (e .expected) (m .ctp)) P) where
+    (is : v ≡ value-of (iv-value (keys-in set) (parts.iv m t))) where
   -- the sum of the letters is the faults of the steps
-  faults-same : x + (y + z) ≡ faults e set t (ksm-in m t)
+  pub faults-same : (x y z : ℕ) → x ≡ when (bad-format (parts.iv m t) v (parts.edk m t)) F
+      → y ≡ when (bad-mac (keys-in set) t (m .mac)) M → z ≡ when (steps.bad-count (e .expected) (m .ctp)) P
+      → x + (y + z) ≡ faults e set t (ksm-in m t)
   unfolding faults ksm-in bad-mac steps.bad-mac
-  faults-same =
+  faults-same x y z format mac count =
       let same = format-same set (ksm-in m t) (parts.iv m t) (parts.edk m t) refl refl in
       let f : x ≡ when (steps.bad-format set (ksm-in m t)) F =
       format ∙ ap (λ (u : Value). when (bad-format (parts.iv m t) u (parts.edk m t)) F) is
       ∙ ap (λ (b : Bool). when b F) same in
       λ i. f i + (mac i + count i)
 
-  -- so the stage refuses with them
-  pub judge-error : (x + (y + z) ≡ 0 → ⊥) → Error (x + (y + z)) ≡ judged e set t (ksm-in m t)
-  judge-error = judged-error e set t (ksm-in m t) (x + (y + z)) faults-same
-
-  -- or hands out
-  pub judge-good : (h : Handed) → h ≡ handed-out v (not (eqb (length (parts.edk m t)) 0)) → x + (y + z) ≡ 0
-      → Good h ≡ judged e set t (ksm-in m t)
+  -- what is handed out is what they tell
+  pub told-same : Ksm-read m t → handed-out v (parts.edk m t)
+      ≡ report (success [] (keys (iv-of set (ksm-in m t)) (ksm-in m t .edk)))
   unfolding ksm-in
-  judge-good h k no-letter =
-      let same = handed-same set (ksm-in m t) (parts.iv m t) (parts.edk m t) refl refl _ refl in
-      ap Good (k ∙ ap (λ (u : Value). handed-out u (not (eqb (length (parts.edk m t)) 0))) is ∙ same)
-      ∙ judged-good e set t (ksm-in m t) (x + (y + z)) faults-same no-letter
+  told-same good =
+      ap (λ (u : Value). handed-out u (parts.edk m t)) is
+      ∙ handed-same set (ksm-in m t) (parts.iv m t) (parts.edk m t) refl refl (date-same m t good)

@@ -1,4 +1,4 @@
--- The replies: what is legal is written, and the turns say of it what the steps say.
+-- The replies: what is legal is written, and the report says of it what the steps say.
 use mathlib.Core.Path.{_≡_, refl, ap, _∙_}
 use mathlib.Core.Bool.{true}
 use mathlib.Core.List.{_++_}
@@ -25,7 +25,7 @@ use Rattle.partner.proofs.Naming.{filled-name}
 use Rattle.partner.proofs.Keeping.{rules}
 use Rattle.calls.specs.Receive.{to-partner, esm-body, error, rsm-body, rsm-text}
 use Rattle.calls.proofs.Readings.{rsm-legal}
-use Rattle.outcome.specs.Report.{turned, report, replied, complained-turned}
+use Rattle.outcome.specs.Report.{report, replied, plain}
 use Rattle.outcome.specs.Acts.{sound}
 use Rattle.receiving.specs.Stages.{Ready, counts-in}
 
@@ -73,13 +73,13 @@ module _ (own : Text) (e : Entry) (l : Text) (ready : Ready own e l) where
   esm-written letters (Both x y) h = (to-partner-written _ refl h, refl)
 
   -- 4 with its length
-  pub error-turned : (letters : ℕ) (counts : Counts) (n : ℕ) → legal-body (esm-body letters (counts-in counts)) ≡ true
+  pub error-told : (letters : ℕ) (counts : Counts) (n : ℕ) → legal-body (esm-body letters (counts-in counts)) ≡ true
       → n ≡ length-of (answer (esm-to letters counts) l)
-      → complained-turned e letters n ≡ turned (error own e letters (counts-in counts))
-  unfolding turned report
-  error-turned letters counts n h k =
+      → plain 4 letters n ≡ report (error own e letters (counts-in counts) .outcome)
+  unfolding report
+  error-told letters counts n h k =
       let w = esm-written letters counts h in
-      ap (complained-turned e letters) (k ∙ w .0 .count ∙ ap (λ (r : Reading). length (print r)) (w .1))
+      ap (plain 4 letters) (k ∙ w .0 .count ∙ ap (λ (r : Reading). length (print r)) (w .1))
 
   -- and its text in the buffer
   pub error-replied : (letters : ℕ) (counts : Counts) → legal-body (esm-body letters (counts-in counts)) ≡ true

@@ -6,6 +6,7 @@ use mathlib.Core.Option.{none, some}
 use Prim.Native.Nat.{ℕ}
 use native.Mathlib.Omega.{arith}
 use lib.Dec.{eqb}
+use borrow.Author.Tests.{eq-eqb, ne-eqb}
 use Rattle.octets.specs.Text.{Text, within}
 use Rattle.csm.specs.Message.{Ksm, Rsm, Esm, legal-body}
 use Rattle.messages.specs.declared.Counts.the-variants.{Without, Both}
@@ -23,12 +24,9 @@ use Rattle.calls.specs.Receive.{faults, bad-format, bad-mac, bad-count, counts-
 use Rattle.calls.specs.Receive.{receive-ksm, receive-rsm, receive-esm}
 use Rattle.calls.proofs.Turns.{letters-legal}
 use Rattle.calls.proofs.Tests.{by-case}
-use Rattle.outcome.specs.declared.Handed.{Handed}
-use Rattle.outcome.specs.Report.{handed}
 use Rattle.receiving.specs.declared.keys.Opened.the-variants as opening
-use Rattle.receiving.specs.declared.judging.Judged.the-variants as judgement
 use Rattle.receiving.specs.Stages as stages
-use Rattle.receiving.specs.Stages.{any-foreign, second-key, opened, judged, counts-between, counts-in}
+use Rattle.receiving.specs.Stages.{any-foreign, second-key, opened, counts-between, counts-in}
 
 -- nothing follows from 0 and 1 being one
 never : {A : Type 0} → _≡_ {A = ℕ} 0 1 → A
@@ -84,45 +82,25 @@ module _ (own : Text) (e : Entry) (text : Text) (m : Ksm) where
 
   module _ (set : KeySet) where
     -- F, M or P
-    pub record Misjudged (n : ℕ) : Type 0 where
-      pub lawful : legal-body (esm-body n (counts-for e m)) ≡ true
-      pub turn : error own e n (counts-for e m) ≡ steps.judged own e text m set
+    pub record Misjudged : Type 0 where
+      pub lawful : legal-body (esm-body (faults e set text m) (counts-for e m)) ≡ true
+      pub turn : error own e (faults e set text m) (counts-for e m) ≡ steps.judged own e text m set
 
-    pub misjudged : (n : ℕ) → legal e ≡ true → within 1 limit (m .ctp) ≡ true
-        → judged e set text m ≡ judgement.Error n → Misjudged n
-    unfolding judged steps.judged faults if_then_else_
-    misjudged n l c h = go (not (eqb (faults e set text m) 0)) refl h
-      where
-        go : (b : Bool) → not (eqb (faults e set text m) 0) ≡ b
-            → (if b then judgement.Error (faults e set text m) else
-            judgement.Good (handed (iv-of set m) (m .edk)))
-            ≡ judgement.Error n
-            → Misjudged n
-        go true q h = let k : faults e set text m ≡ n = cc in record {
-          lawful = ap (λ (x : ℕ). legal-body (esm-body x (counts-for e m))) (sym k)
-              ∙ letters-legal (bad-format set m) (bad-mac set text (m .mac)) (bad-count (e .expected) (m .ctp))
+    pub misjudged : legal e ≡ true → within 1 limit (m .ctp) ≡ true → (faults e set text m ≡ 0 → ⊥) → Misjudged
+    unfolding steps.judged faults if_then_else_
+    misjudged l c z =
+        let q = ap not (ne-eqb (faults e set text m) 0 z) in record {
+          lawful = letters-legal (bad-format set m) (bad-mac set text (m .mac)) (bad-count (e .expected) (m .ctp))
               (e .expected) (m .ctp) (rules e l .expected-right) c q;
-          turn = ap (λ (x : ℕ). error own e x (counts-for e m)) (sym k) ∙ rw q;
+          turn = rw q;
         }
-        go false q h = never cc
 
     -- none of them
-    pub record Accepts (h : Handed) : Type 0 where
-      pub told : h ≡ handed (iv-of set m) (m .edk)
-      pub turn : done (accepted e (m .ctp) set) (rsm-text own e set) (keys (iv-of set m) (m .edk))
-          ≡ steps.judged own e text m set
-
-    pub accepts : (h : Handed) → judged e set text m ≡ judgement.Good h → Accepts h
-    unfolding judged steps.judged if_then_else_
-    accepts h k = go (not (eqb (faults e set text m) 0)) refl k
-      where
-        go : (b : Bool) → not (eqb (faults e set text m) 0) ≡ b
-            → (if b then judgement.Error (faults e set text m) else
-            judgement.Good (handed (iv-of set m) (m .edk)))
-            ≡ judgement.Good h
-            → Accepts h
-        go true q k = never cc
-        go false q k = record { told = cc; turn = rw q }
+    pub accepts : faults e set text m ≡ 0
+        → done (accepted e (m .ctp) set) (rsm-text own e set) (keys (iv-of set m) (m .edk))
+        ≡ steps.judged own e text m set
+    unfolding steps.judged if_then_else_
+    accepts z = rw (eq-eqb (faults e set text m) 0 z)
 
 -- the counts of an ESM for P
 pub counts-same : (e : Entry) (m : Ksm) → counts-in (counts-between (e .expected) (m .ctp)) ≡ counts-for e m

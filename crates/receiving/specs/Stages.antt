@@ -1,7 +1,7 @@
 -- The stages of receive, in the code's values: what each hands on, or the letters with which it refuses.
 use mathlib.Core.Path.{_≡_}
 use mathlib.Core.Bool.{Bool, true, false, cond, not, _||_}
-use mathlib.Core.List.{List}
+use mathlib.Core.List.{List, []}
 use mathlib.Core.Option.{Option, none, some}
 use Prim.Native.Nat.{ℕ, _≤_}
 use lib.Dec.{eqb}
@@ -22,15 +22,14 @@ use Rattle.partner.specs.Entry.{name-of, one-key, two-keys}
 use Rattle.partner.specs.Changes.{given-up, failed}
 use Rattle.calls.specs.declared.Date.{Date}
 use Rattle.calls.specs.Words.{if_then_else_, some-has, any}
-use Rattle.calls.specs.Outcome.{I, K}
+use Rattle.calls.specs.Outcome.{I, K, success, keys}
 use Rattle.calls.specs.Receive.{kds, foreign, deciphered, uneven, bad-count, faults, iv-of}
-use Rattle.outcome.specs.declared.Handed.{Handed}
-use Rattle.outcome.specs.Report.{handed}
+use Rattle.outcome.specs.declared.Report.{Report}
+use Rattle.outcome.specs.Report.{report, keys-told}
 use Rattle.outcome.specs.Acts.{sound}
 use Rattle.receiving.specs.declared.keys.Opened.{Opened}
 use Rattle.receiving.specs.declared.keys.Opened.the-variants as opening
 use Rattle.receiving.specs.declared.judging.Judged.{Judged}
-use Rattle.receiving.specs.declared.judging.Judged.the-variants as judgement
 use Rattle.receiving.specs.declared.judging.Value.{Value}
 use Rattle.receiving.specs.declared.judging.Value.the-variants as value
 
@@ -98,24 +97,25 @@ bad-format iv v edk = bad-iv iv v || some-has (λ w. not (is-date w)) (nonempty 
 unfoldable pub bad-mac : List ℕ → Text → ℕ → Bool
 bad-mac ks text m = not (eqb (mac (mac-key ks) (covered text)) m)
 
--- the letters of F, M and P that hold; else what is handed out
-unfoldable pub judged : Entry → KeySet → Text → Ksm → Judged
-judged e set text m =
-    if not (eqb (faults e set text m) 0) then judgement.Error (faults e set text m) else
-    judgement.Good (handed (iv-of set m) (m .edk))
-
-abbrev pub judged-letters : Judged → ℕ
-judged-letters (judgement.Good h) = 0
-judged-letters (judgement.Error letters) = letters
-
--- the IV's value, zero where it has none, and whether there is a date
-abbrev pub handed-out : Value → Bool → Handed
-handed-out (value.Is n) dated = record { vector = true; iv = n; dated = dated }
-handed-out value.Nothing dated = record { vector = false; iv = 0; dated = dated }
+-- the letters of F, M and P that hold, and what is reported where none does, before the reply is written
+abbrev pub judged : Entry → KeySet → Text → Ksm → Judged
+judged e set text m = record {
+  letters = faults e set text m;
+  report = report (success [] (keys (iv-of set m) (m .edk)));
+}
 
 -- the digits of a date, zeros where there is none
 abbrev pub date-over : Text → Date
 date-over edk = record { digits = over edk (copies 12 0) }
+
+-- the value of an IV, zero where it has none
+abbrev pub value-told : Value → ℕ
+value-told (value.Is n) = n
+value-told value.Nothing = 0
+
+-- that and the date
+abbrev pub handed-out : Value → Text → Report
+handed-out v edk = keys-told (is-value v) (value-told v) (not (eqb (length edk) 0)) (date-over edk)
 
 -- ---- replies
 

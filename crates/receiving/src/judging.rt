@@ -9,32 +9,22 @@ use calls::Date;
 use fields::Number;
 use keying::DataKeys;
 use messages::Counts;
-use outcome::Handed;
+use outcome::Report;
 use partner::Entry;
 use partner::KeySet;
 use reader::Ksm;
 use reader::find;
 
-// What an accepted KSM hands out, or the letters of F, M and P that hold.
-pub(crate) enum Judged {
-    Good(Handed),
-    Error(u64),
+// The letters of F, M and P that hold, and what is reported where none does, before the reply is written.
+pub(crate) struct Judged {
+    pub letters: u64,
+    pub report: Report,
 }
 
 // The value of an IV, or nothing.
 enum Value {
     Is(u64),
     Nothing,
-}
-
-// The letters that hold.
-pub(crate) fn letters_of(judged: Judged) -> u64
-    ensures { λ r. ⌜ r ≡ stages.judged-letters judged ⌝ }
-{
-    match judged {
-        Judged::Good(_) => 0,
-        Judged::Error(letters) => letters,
-    }
 }
 
 // The value of an IV: after P as it stands, after E deciphered; nothing where it is not E or P and 16 hex digits.
@@ -120,27 +110,30 @@ pub(crate) fn counts_for(expected: u32, count: u64) -> Counts
     Counts::Without
 }
 
-// What is handed out: the IV's value, zero where it has none, and whether there is a date.
-fn handed(value: Value, dated: bool) -> Handed
-    ensures { λ r. ⌜ r ≡ stages.handed-out value dated ⌝ }
+// The digits of an EDK, zeros where there is none.
+fn date_of(edk: &[u8]) -> Date
+    ensures { λ r. ⌜ r ≡ stages.date-over (now (edk .entry)) ⌝ }
 {
+    let mut digits = [0; 12];
+    octets::copy(&mut digits, edk);
+    Date { digits: digits }
+}
+
+// What an accepted KSM hands out: the IV's value and the date, each zero where there is none.
+fn handed(value: Value, edk: &[u8]) -> Report
+    ensures { λ r. ⌜ r ≡ stages.handed-out value (now (edk .entry)) ⌝ }
+{
+    let dated = edk.len() != 0;
+    let date = date_of(edk);
     match value {
-        Value::Is(iv) => Handed {
-            vector: true,
-            iv,
-            dated,
-        },
-        Value::Nothing => Handed {
-            vector: false,
-            iv: 0,
-            dated,
-        },
+        Value::Is(iv) => outcome::told_keys(true, iv, dated, date),
+        Value::Nothing => outcome::told_keys(false, 0, dated, date),
     }
 }
 
-// F, M and P are all judged: all that hold, or what is handed out.
+// F, M and P are all judged: all that hold, and what is handed out where none does.
 pub(crate) fn judge(e: Entry, set: KeySet, text: &[u8], m: Ksm) -> Judged
-    requires { ⌜ texts.Sealed (now text) ⌝ }
+    requires { ⌜ texts.Ksm-read m (now text) ⌝ }
     ensures { λ r. ⌜ r ≡ stages.judged e set (now (text .entry)) (texts.ksm-in m (now (text .entry))) ⌝ }
 {
     let keys = partner::data_keys(set);
@@ -150,18 +143,8 @@ pub(crate) fn judge(e: Entry, set: KeySet, text: &[u8], m: Ksm) -> Judged
     let format = letter(bad_format(iv, value, edk), 4);
     let mac = letter(bad_mac(keys, text, m.mac), 32);
     let count = letter(bad_count(e.expected, m.ctp), 128);
-    let letters = format + (mac + count);
-    if letters != 0 {
-        return Judged::Error(letters);
+    Judged {
+        letters: format + (mac + count),
+        report: handed(value, edk),
     }
-    Judged::Good(handed(value, edk.len() != 0))
-}
-
-// The digits of an EDK, zeros where there is none.
-pub(crate) fn date_of(edk: &[u8]) -> Date
-    ensures { λ r. ⌜ r ≡ stages.date-over (now (edk .entry)) ⌝ }
-{
-    let mut digits = [0; 12];
-    octets::copy(&mut digits, edk);
-    Date { digits: digits }
 }

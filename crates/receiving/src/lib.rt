@@ -10,11 +10,9 @@ ghost use Rattle.outcome.specs.Report as report;
 ghost use Rattle.outcome.specs.Acts as acts;
 ghost use Rattle.receiving.specs.Texts as texts;
 ghost use Rattle.receiving.specs.Stages as stages;
-use judging::Judged;
 use keys::Opened;
 pub use keys::name_in_force;
 use messages::Counts;
-use outcome::Telling;
 use outcome::Turned;
 use partner::Entry;
 use reader::Esm;
@@ -22,7 +20,6 @@ use reader::Ksm;
 use reader::Message;
 use reader::Optional;
 use reader::Rsm;
-use reader::find;
 
 mod judging;
 mod keys;
@@ -37,18 +34,25 @@ fn receive_ksm(own: &[u8], e: Entry, text: &[u8], m: Ksm, reply: &mut [u8]) -> T
 {
     let opened = keys::open_keys(e, text, m);
     let Opened::Keys { first, second } = opened else {
-        return replies::error(own, e, keys::letters_of(opened), Counts::Without, reply);
+        return Turned {
+            entry: e,
+            report: replies::error(own, e, keys::letters_of(opened), Counts::Without, reply),
+        };
     };
     let set = keys::brought(first, second, text, m);
     let judged = judging::judge(e, set, text, m);
-    let Judged::Good(handed) = judged else {
+    let letters = judged.letters;
+    if letters != 0 {
         let counts = judging::counts_for(e.expected, m.ctp);
-        return replies::error(own, e, judging::letters_of(judged), counts, reply);
-    };
-    let length = replies::confirm(own, e, set, reply);
-    let date = judging::date_of(find::edk(text, m));
-    let accepted = partner::accepted(e, m.ctp as u32, set);
-    outcome::done(accepted, length, Telling::Keys(handed), date)
+        return Turned {
+            entry: e,
+            report: replies::error(own, e, letters, counts, reply),
+        };
+    }
+    let mut report = judged.report;
+    report.length = replies::confirm(own, e, set, reply);
+    let entry = partner::accepted(e, m.ctp as u32, set);
+    Turned { entry, report }
 }
 
 // Whether a key message is waiting.
@@ -70,14 +74,15 @@ fn receive_rsm(own: &[u8], e: Entry, text: &[u8], m: Rsm, reply: &mut [u8]) -> T
     }
     let outgoing = e.outgoing;
     if judging::bad_mac(partner::data_keys(outgoing), text, m.mac) {
-        return replies::error(own, e, 32, Counts::Without, reply);
+        return Turned {
+            entry: e,
+            report: replies::error(own, e, 32, Counts::Without, reply),
+        };
     }
-    outcome::done(
-        partner::settled(e),
-        0,
-        Telling::Confirmation,
-        outcome::no_date(),
-    )
+    Turned {
+        entry: partner::settled(e),
+        report: outcome::told_confirmation(),
+    }
 }
 
 // The entry after an ESM with that CTP, or without one.
@@ -100,8 +105,10 @@ fn receive_esm(e: Entry, m: Esm) -> Turned
         return outcome::refused(e, 5);
     }
     let ctp = m.ctp;
-    let after = after_esm(e, ctp);
-    outcome::done(after, 0, Telling::Failure(m.erf), outcome::no_date())
+    Turned {
+        entry: after_esm(e, ctp),
+        report: outcome::told_failure(m.erf),
+    }
 }
 
 // By class; an RSI: 0, the service wanted is returned; an option: 4 with O; no message: 1.
@@ -112,11 +119,17 @@ fn by_class(own: &[u8], e: Entry, text: &[u8], reply: &mut [u8]) -> Turned
 {
     let message = reader::read(text);
     match message {
-        Message::Rsi(m) => outcome::done(e, 0, Telling::Service(m.service), outcome::no_date()),
+        Message::Rsi(m) => Turned {
+            entry: e,
+            report: outcome::told_service(m.service),
+        },
         Message::Ksm(m) => receive_ksm(own, e, text, m, reply),
         Message::Rsm(m) => receive_rsm(own, e, text, m, reply),
         Message::Esm(m) => receive_esm(e, m),
-        Message::Option(_) => replies::error(own, e, 64, Counts::Without, reply),
+        Message::Option(_) => Turned {
+            entry: e,
+            report: replies::error(own, e, 64, Counts::Without, reply),
+        },
         Message::Nothing => outcome::refused(e, 1),
     }
 }

@@ -8,20 +8,20 @@ ghost use Rattle.calls.specs.Receive as steps;
 ghost use Rattle.outcome.specs.Report as report;
 ghost use Rattle.receiving.specs.Stages as stages;
 use messages::Counts;
-use outcome::Turned;
+use outcome::Report;
 use partner::Entry;
 use partner::KeySet;
 
-// 4 with these letters: an ESM, the entry as it was.
-pub(crate) fn error(own: &[u8], e: Entry, letters: u64, counts: Counts, reply: &mut [u8]) -> Turned
+// 4 with these letters: an ESM.
+pub(crate) fn error(own: &[u8], e: Entry, letters: u64, counts: Counts, reply: &mut [u8]) -> Report
     requires { ⌜ stages.Ready (now own) e (now reply) ⌝ }
     requires { ⌜ csm.legal-body (steps.esm-body letters (stages.counts-in counts)) ≡ true ⌝ }
-    ensures { λ r. ⌜ r ≡ report.turned (steps.error (now (own .entry)) e letters (stages.counts-in counts)) ⌝ }
+    ensures { λ r. ⌜ r ≡ report.report (steps.error (now (own .entry)) e letters (stages.counts-in counts) .outcome) ⌝ }
     ensures { λ r. ⌜ now (reply .exit) ≡ report.replied (steps.error (now (own .entry)) e letters (stages.counts-in counts) .outcome) (now (reply .entry)) ⌝ }
 {
     let identity = e.identity;
     let written = messages::write_esm(reply, octets::bare(&identity.bytes), own, letters, counts);
-    outcome::complained(e, letters, messages::length_of(written))
+    outcome::complaint(letters, messages::length_of(written))
 }
 
 // An RSM under the keys of the KSM that it answers: its length.

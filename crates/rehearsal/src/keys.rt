@@ -1,6 +1,4 @@
-// The keys of the rehearsal, each of odd parity; none is a secret.
-use calls::KeyRequest;
-use calls::Request;
+// The keys of the rehearsal, each of odd parity, and the requests for them; none is a secret.
 use keying::Top;
 
 // The pair that the custodians load at both ends.
@@ -8,36 +6,12 @@ pub(crate) fn top() -> Top {
     Top::Pair(0x0123456789ABCDEF, 0xFEDCBA9876543210)
 }
 
-// A data key, marked P, its name written as IDK1.
-fn marked(key: u64, name: &[u8]) -> KeyRequest {
-    KeyRequest {
-        key,
-        flags: 3,
-        name: partner::name_of(name),
-    }
+// On Monday one key, marked P, its name written as IDK1.
+pub(crate) fn monday() -> [u8; 73] {
+    *b"\x01\x13\x57\x9B\xDF\x02\x46\x8A\xCE\x03MONDAY          \x15\x15\x20\x34\x62\x37\x31\x94\x03SPARE           \x00\x00\x00\x00\x00\x00\x00\x00\x00\x00\x00\x00\x00\x00\x00\x00\x00\x00\x00\x00\x00\x00"
 }
 
-// What a day's KSM brings: on Monday one key, else two and an enciphered IV.
-pub(crate) fn request(day: &[u8]) -> Request {
-    let spare = marked(0x1515203462373194, b"SPARE");
-    if octets::same(day, b"MONDAY") {
-        return Request {
-            count: 1,
-            first: marked(0x13579BDF02468ACE, day),
-            second: spare,
-            kind: 0,
-            iv: 0,
-            dated: 0,
-            date: outcome::no_date(),
-        };
-    }
-    Request {
-        count: 2,
-        first: marked(0x2619291929459145, day),
-        second: spare,
-        kind: 2,
-        iv: 0x3140582652589792,
-        dated: 0,
-        date: outcome::no_date(),
-    }
+// On Tuesday two such keys and an enciphered IV.
+pub(crate) fn tuesday() -> [u8; 73] {
+    *b"\x02\x26\x19\x29\x19\x29\x45\x91\x45\x03TUESDAY         \x15\x15\x20\x34\x62\x37\x31\x94\x03SPARE           \x02\x31\x40\x58\x26\x52\x58\x97\x92\x00\x00\x00\x00\x00\x00\x00\x00\x00\x00\x00\x00\x00"
 }

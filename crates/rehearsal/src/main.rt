@@ -8,28 +8,8 @@ use outcome::Report;
 use partner::Entry;
 use script::Scene;
 
-// A move that only looks at the row.
-fn looking(row: &[Entry], own: &[u8], partner: &[u8], act: u8) -> Report {
-    match act {
-        script::ASK => print::found(row::ask(row, own, partner)),
-        _ => print::judged(row::legal(row, own)),
-    }
-}
-
-// A move with no reply.
-fn quiet(row: &mut [Entry], own: &[u8], partner: &[u8], text: &[u8], act: u8) -> Report {
-    match act {
-        script::START => outcome::refusal(row::start(row, own)),
-        script::LOAD => row::load(row, own, partner, text, keys::top()),
-        script::REMOVE => row::remove(row, own, partner),
-        script::GIVE_UP => row::give_up(row, own, partner),
-        script::READ => outcome::refusal(row::read_image(text, row)),
-        _ => looking(row, own, partner, act),
-    }
-}
-
-// A move with a reply.
-fn spoken(
+// A move, with room for what it puts out.
+fn made(
     row: &mut [Entry],
     own: &[u8],
     partner: &[u8],
@@ -38,11 +18,12 @@ fn spoken(
     act: u8,
 ) -> Report {
     match act {
-        script::BUILD_KSM => row::build_ksm(row, own, partner, keys::request(text), reply),
-        script::BUILD_RSI => row::build_rsi(row, own, partner, text, reply),
-        script::RECEIVE => row::receive(row, own, text, reply),
+        script::START => outcome::refusal(row::start(row, own)),
+        script::READ => outcome::refusal(row::read_image(text, row)),
         script::WRITE => row::write_image(row, own, reply),
-        _ => quiet(row, own, partner, text, act),
+        script::ASK => print::found(row::ask(row, own, partner)),
+        script::JUDGE => print::judged(row::legal(row, own)),
+        _ => row::call(row, own, partner, script::asked(act), text, reply),
     }
 }
 
@@ -53,7 +34,7 @@ fn perform(row: &mut [Entry], scene: Scene) -> Scene {
     let partner = script::partner(scene);
     let text = script::text(scene);
     let mut reply = [0u8; 256];
-    let report = spoken(
+    let report = made(
         row,
         &own,
         &partner,

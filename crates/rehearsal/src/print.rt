@@ -1,7 +1,6 @@
 // What is written out.
 use crate::script;
 use outcome::Report;
-use outcome::Telling;
 use partner::DataKey;
 use partner::Entry;
 use partner::KeySet;
@@ -57,39 +56,47 @@ fn put_letters(letters: u64) {
     put_letter(letters, 256, b'U');
 }
 
+// The place of a service among the twelve contents of SVR.
+fn put_service(service: u64) {
+    put(b", service number ");
+    if 1 <= service {
+        io::print_decimal(1, service - 1);
+    }
+}
+
+// The keys of a KSM, and its IV where there is one.
+fn put_new_keys(report: Report) {
+    put(b", new keys");
+    if report.vector {
+        put(b", IV ");
+        io::print_hex(1, report.iv, 16);
+    }
+}
+
 // What is told besides the answer.
-fn put_telling(telling: Telling) {
-    match telling {
-        Telling::Nothing => put(b""),
-        Telling::Service(n) => {
-            put(b", service number ");
-            io::print_decimal(1, n);
-        }
-        Telling::Keys(handed) => {
-            put(b", new keys");
-            if handed.vector {
-                put(b", IV ");
-                io::print_hex(1, handed.iv, 16);
-            }
-        }
-        Telling::Confirmation => put(b", confirmed"),
-        Telling::Failure(letters) => {
+fn put_told(report: Report) {
+    let class = report.class;
+    match class {
+        0 => put(b""),
+        1 => put_service(report.service),
+        2 => put_new_keys(report),
+        3 => put(b", confirmed"),
+        _ => {
             put(b", failed: ");
-            put_letters(letters);
+            put_letters(report.letters);
         }
     }
 }
 
-// The answer, the letters of an error, and what is told.
+// The answer, the letters of our own error, and what is told.
 pub(crate) fn told(report: Report) {
-    let telling = report.telling;
     put(b"  answer ");
     io::print_decimal(1, report.answer as u64);
-    if report.letters != 0 {
+    if report.class == 0 && report.letters != 0 {
         put(b", letters ");
         put_letters(report.letters);
     }
-    put_telling(telling);
+    put_told(report);
     put(b"\n");
 }
 

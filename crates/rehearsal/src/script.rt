@@ -1,6 +1,8 @@
 // The script: whose move it is, what it is, and the letters between the two cards.
+use crate::keys;
 use crate::print;
 use outcome::Report;
+use sight::aims::Act;
 
 // The moves.
 pub const START: u8 = 0;
@@ -121,8 +123,20 @@ pub(crate) fn announced(scene: Scene) -> u8 {
     act
 }
 
-// What goes with the move: the name of the key loaded, the day of the data key, the service, what the partner put out
-// last, or what the card itself did.
+// What a call asks, by the move.
+pub(crate) fn asked(act: u8) -> Act {
+    match act {
+        LOAD => Act::Load(keys::top()),
+        REMOVE => Act::Remove,
+        GIVE_UP => Act::GiveUp,
+        BUILD_KSM => Act::BuildKsm,
+        BUILD_RSI => Act::BuildRsi,
+        _ => Act::Receive,
+    }
+}
+
+// What goes with the move: the name of the key loaded, the request of the day's keys, the service, what the partner put
+// out last, or what the card itself did.
 fn given(scene: Scene) -> Letter {
     let number = scene.number;
     let act = act(number);
@@ -136,9 +150,9 @@ fn given(scene: Scene) -> Letter {
     }
     if act == BUILD_KSM {
         if number < 14 {
-            return letter_of(b"MONDAY");
+            return letter_of(&keys::monday());
         }
-        return letter_of(b"TUESDAY");
+        return letter_of(&keys::tuesday());
     }
     if (act == RECEIVE) == is_bravo(scene) {
         alpha

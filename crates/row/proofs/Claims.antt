@@ -12,7 +12,7 @@ use Rattle.octets.specs.Part.{bare}
 use Rattle.csm.proofs.TextLaws.{and-true}
 use Rattle.partner.specs.declared.Entry.{Entry}
 use Rattle.partner.proofs.Claims as entries
-use Rattle.image.specs.Table.{Table, legal, AllHeld}
+use Rattle.partner.specs.Table.{Table, legal, AllHeld}
 use Rattle.image.specs.Image.{encode, decode}
 use Rattle.image.proofs.Claims as images
 use Rattle.calls.specs.Words.{if_then_else_}
@@ -20,8 +20,8 @@ use Rattle.calls.specs.Calls.{Call, run, refuse}
 use Rattle.calls.proofs.Tests.{if-true, if-false}
 use Rattle.calls.proofs.Tables.{legal-parts, own-name}
 use Rattle.outcome.specs.Report.{report, replied}
-use Rattle.sight.specs.Table.{table}
-use Rattle.row.specs.Calls.{over, slots-or, read-row, written}
+use Rattle.sight.specs.Table.{table, over}
+use Rattle.row.specs.Calls.{slots-or, read-row, written}
 use Rattle.row.specs.Claims.{Claims}
 use Rattle.row.proofs.Writing.{all-written, image-there}
 

@@ -16,42 +16,19 @@ legal M 𝓤 H A mem run κs a g x y v w = told-alike 𝓤 (search says) (search
 pub ask : One-written fn.ask.ended (λ M. fn.ask.clauses)
 ask M 𝓤 H A mem run κs a g x y v w = told-alike 𝓤 (search says) (search says) (λ p q. (alike p q, refl))
 
-pub receive : One-written fn.receive.ended (λ M. fn.receive.clauses)
-receive M 𝓤 H A mem run κs a g x y v w =
+pub call : One-written fn.call.ended (λ M. fn.call.clauses)
+call M 𝓤 H A mem run κs a g x y v w =
     told-alike 𝓤 (search says) (search says) (λ p q.
-    (alike (p .0) (q .0), alike (p .1 .0) (q .1 .0) also refl also refl also alike (p .1 .1) (q .1 .1) also refl))
-
-pub build-ksm : One-written fn.build_ksm.ended (λ M. fn.build_ksm.clauses)
-build-ksm M 𝓤 H A mem run κs a g x y v w =
-    told-alike 𝓤 (search says) (search says) (λ p q.
-    (alike (p .0) (q .0), alike (p .1 .0) (q .1 .0) also refl also refl also refl also alike (p .1 .1) (q .1 .1) also refl))
-
-pub build-rsi : One-written fn.build_rsi.ended (λ M. fn.build_rsi.clauses)
-build-rsi M 𝓤 H A mem run κs a g x y v w =
-    told-alike 𝓤 (search says) (search says) (λ p q.
-    (alike (p .0) (q .0), alike (p .1 .0) (q .1 .0) also refl also refl also refl also alike (p .1 .1) (q .1 .1) also refl))
-
-pub give-up : One-written fn.give_up.ended (λ M. fn.give_up.clauses)
-give-up M 𝓤 H A mem run κs a g x y v w =
-    told-alike 𝓤 (search says) (search says) (λ p q. (alike (p .0) (q .0), alike (p .1) (q .1) also refl))
-
-pub remove : One-written fn.remove.ended (λ M. fn.remove.clauses)
-remove M 𝓤 H A mem run κs a g x y v w =
-    told-alike 𝓤 (search says) (search says) (λ p q. (alike (p .0) (q .0), alike (p .1) (q .1) also refl))
-
-pub load : One-written fn.load.ended (λ M. fn.load.clauses)
-load M 𝓤 H A mem run κs a g x y v w =
-    told-alike 𝓤 (search says) (search says) (λ p q. (alike (p .0) (q .0), alike (p .1) (q .1) also refl))
+    (alike (p .given) (q .given), alike (p .row) (q .row) also refl also refl also refl also refl also alike (p .reply) (q .reply) also refl))
 
 pub start : One-written fn.start.ended (λ M. fn.start.clauses)
 start M 𝓤 H A mem run κs a g x y v w =
-    told-alike 𝓤 (search says) (search says) (λ p q. (alike (p .0) (q .0), alike (p .1) (q .1) also refl))
+    told-alike 𝓤 (search says) (search says) (λ p q. (alike (p .answer) (q .answer), alike (p .row) (q .row) also refl))
 
 pub read-image : One-written fn.read_image.ended (λ M. fn.read_image.clauses)
 read-image M 𝓤 H A mem run κs a g x y v w =
-    told-alike 𝓤 (search says) (search says) (λ p q. (alike (p .0) (q .0), refl also alike (p .1) (q .1) also refl))
+    told-alike 𝓤 (search says) (search says) (λ p q. (alike (p .answer) (q .answer), refl also alike (p .row) (q .row) also refl))
 
 pub write-image : One-written fn.write_image.ended (λ M. fn.write_image.clauses)
 write-image M 𝓤 H A mem run κs a g x y v w =
-    told-alike 𝓤 (search says) (search says) (λ p q.
-    (alike (p .0) (q .0), refl also refl also alike (p .1) (q .1) also refl))
+    told-alike 𝓤 (search says) (search says) (λ p q. (alike (p .given) (q .given), refl also refl also alike (p .out) (q .out) also refl))

@@ -20,7 +20,7 @@ use Rattle.partner.specs.declared.DataKey.{DataKey}
 use Rattle.partner.specs.declared.KeySet.{KeySet}
 use Rattle.partner.specs.Entry.{empty}
 use Rattle.partner.specs.Record.{place-bytes, set-bytes, top-bytes, front-bytes, count-bytes, entry-bytes}
-use Rattle.image.specs.Table.{is-empty}
+use Rattle.partner.specs.Table.{is-empty}
 use Rattle.image.specs.Image.{slot-bytes, slots-bytes}
 use Rattle.image.proofs.Buffers.{left-all}
 use Rattle.row.specs.Stored.{filled, size, put-slot, behind, put-slots, laid}

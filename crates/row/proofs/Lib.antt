@@ -1,11 +1,7 @@
 pub mod Walk
 pub mod Looking
-pub mod Acting
-pub mod Turns
 pub mod Called
 pub mod Asking
-pub mod Loading
-pub mod Storing
 pub mod Filling
 pub mod Starting
 pub mod Laying

@@ -9,14 +9,15 @@ use borrow.Author.Tests.{lt-ltb, le-ltb, eq-eqb, ne-eqb}
 use Rattle.octets.specs.Text.{Text, is-name}
 use Rattle.csm.proofs.TextLaws.{and-true}
 use Rattle.partner.specs.declared.Entry.{Entry}
-use Rattle.image.specs.Table.{legal}
+use Rattle.partner.specs.Entry.{filled}
+use Rattle.partner.specs.Table.{legal}
 use Rattle.image.specs.Image.{encode}
 use Rattle.calls.specs.Words.{if_then_else_}
 use Rattle.calls.specs.Outcome.{refusal}
-use Rattle.calls.specs.Calls.{Call, After, receive, build-ksm, build-rsi, refuse, perform, run, start}
+use Rattle.calls.specs.Calls.{Call, After, receive, about, build-ksm, build-rsi, refuse, perform, run, start}
 use Rattle.calls.proofs.Tests.{if-true, if-false}
-use Rattle.sight.specs.Table.{table, row-legal}
-use Rattle.row.specs.Calls.{over, shown-of, asked, slots-or, start-row, read-row, written}
+use Rattle.sight.specs.Table.{table, row-legal, over}
+use Rattle.row.specs.Calls.{slot-of, shown-of, asked, slots-or, start-row, read-row, written}
 use Rattle.row.specs.Stored.{start-answer, read-answer}
 use Rattle.row.specs.Orders.{Orders}
 
@@ -36,11 +37,11 @@ pub orders : Orders
 unfolding perform asked row-legal start-answer start-row read-answer read-row written start
 orders = record {
   receive-6 = λ own slots room text l h. no-room own slots l room (receive room text) _ refl h;
-  build-ksm-6 = λ own slots room id q l h. no-room own slots l room (build-ksm room id q) _ refl h;
-  build-rsi-6 = λ own slots room id contents l h. no-room own slots l room (build-rsi room id contents) _ refl h;
+  build-ksm-6 = λ own slots room id q l h. no-room own slots l room (about id (build-ksm room q)) _ refl h;
+  build-rsi-6 = λ own slots room id contents l h. no-room own slots l room (about id (build-rsi room contents)) _ refl h;
   ask-13 = λ own slots id l. if-false _ _ _ l;
-  ask-3 = λ own slots id l h. if-true _ _ _ l ∙ ap shown-of h;
-  ask-0 = λ own slots id e l h. if-true _ _ _ l ∙ ap shown-of h;
+  ask-3 = λ own slots id l h. if-true _ _ _ l ∙ ap (shown-of (slot-of (filled id) slots)) h;
+  ask-0 = λ own slots id e l h. if-true _ _ _ l ∙ ap (shown-of (slot-of (filled id) slots)) h;
   start-13 = λ own n h. rw (ne-eqb n 64 h);
   start-10 = λ own h. rw h;
   start-0 = λ own row n h. (

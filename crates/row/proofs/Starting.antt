@@ -9,16 +9,22 @@ use lib.Dec.{eqb, leb}
 use borrow.Author.Tests.{leb-true}
 use lib.ListN.{length, drop, drop-of-length-le}
 use Rattle.octets.specs.Text.{Text, same, is-name, all, run-char, within}
+use Rattle.octets.specs.First.{first}
 use Rattle.csm.proofs.TextLaws.{and-true, some-inj, none-some}
 use Rattle.partner.specs.declared.Entry.{Entry}
 use Rattle.partner.specs.Entry.{empty, name-of}
-use Rattle.image.specs.Table.{Table, legal, empties, started}
+use Rattle.partner.specs.Table.{Table, legal, empties, started}
 use Rattle.image.specs.Image.{encode, decode, found, table-in, slots-in, slot-in, record-length}
 use Rattle.calls.specs.Words.{if_then_else_}
 use Rattle.calls.specs.Calls as every
 use Rattle.calls.proofs.Tests.{if-true, if-false}
 use Rattle.row.specs.Stored.{start-answer, read-answer, filled, refilled}
 use Rattle.row.specs.Calls.{slots-or, start-row, read-row}
+
+-- two tests in their order
+pub two : (b c : Bool) (n : ℕ) → first ((b, 13) ∷ (c, n) ∷ []) ≡ cond b 13 (cond c n 0)
+two true c n = refl
+two false c n = refl
 
 -- the answers, and the row with each
 refused-row : (n : ℕ) (image : Text) (row : List Entry) → eqb n 0 ≡ false → refilled n image row ≡ row
@@ -56,7 +62,8 @@ slots-of image t h = go (legal (table-in image) && same (encode (table-in image)
 -- start
 pub start-is : (own : Text) (row : List Entry) → refilled (start-answer own (length row)) own row ≡ start-row own row
 unfolding start-answer start-row every.start
-start-is own row = by-length (eqb (length row) 64) refl
+start-is own row =
+    ap (λ (n : ℕ). refilled n own row) (two (not (eqb (length row) 64)) (not (is-name own)) 10) ∙ by-length (eqb (length row) 64) refl
   where
     by-name : eqb (length row) 64 ≡ true → (b : Bool) → is-name own ≡ b
         → refilled (cond (not b) 10 0) own row ≡ slots-or row (if is-name own then some (started (name-of own)) else none)
@@ -79,7 +86,9 @@ start-is own row = by-length (eqb (length row) 64) refl
 -- image reading
 pub read-is : (image : Text) (row : List Entry) → refilled (read-answer image (length row)) image row ≡ read-row image row
 unfolding read-answer read-row
-read-is image row = by-length (eqb (length row) 64) refl
+read-is image row =
+    ap (λ (n : ℕ). refilled n image row) (two (not (eqb (length row) 64)) (not (found (decode image))) 13)
+    ∙ by-length (eqb (length row) 64) refl
   where
     by-table : eqb (length row) 64 ≡ true → (o : Option Table) → decode image ≡ o
         → refilled (cond (not (found o)) 13 0) image row ≡ slots-or row o

@@ -15,7 +15,7 @@ use Rattle.csm.proofs.TextLaws.{and-true}
 use Rattle.partner.specs.declared.Entry.{Entry}
 use Rattle.partner.specs.Entry as entries
 use Rattle.partner.proofs.Naming.{length-filled}
-use Rattle.image.specs.Table.{legal}
+use Rattle.partner.specs.Table.{legal}
 use Rattle.image.specs.Image.{encode, slots-bytes}
 use Rattle.calls.specs.Words.{if_then_else_}
 use Rattle.calls.specs.Outcome.{Outcome, refusal, success, nothing}
@@ -26,6 +26,7 @@ use Rattle.outcome.specs.Report.{report, replied}
 use Rattle.sight.specs.Table.{table, row-legal}
 use Rattle.row.specs.Stored.{filled, front, size, put-slots, laid, fronted, write-answer, write-report}
 use Rattle.row.specs.Calls.{written}
+use Rattle.row.proofs.Starting.{two}
 use Rattle.row.proofs.Laying.{put-behind}
 
 -- the image has that size
@@ -97,10 +98,12 @@ module _ (own : Text) (slots : List Entry) (out : Text) where
   by-legal : (b : Bool) → row-legal own slots ≡ b → Ended (write-answer (row-legal own slots) (size slots) (length out))
   unfolding write-answer written
   by-legal true l =
-      subst Ended (sym (ap (λ (b : Bool). cond (not b) 13 (cond (ltb (length out) (size slots)) 6 0)) l))
+      subst Ended (sym (two (not (row-legal own slots)) (ltb (length out) (size slots)) 6
+      ∙ ap (λ (b : Bool). cond (not b) 13 (cond (ltb (length out) (size slots)) 6 0)) l))
       (by-room l (ltb (length out) (size slots)) refl)
   by-legal false l =
-      subst Ended (sym (ap (λ (b : Bool). cond (not b) 13 (cond (ltb (length out) (size slots)) 6 0)) l))
+      subst Ended (sym (two (not (row-legal own slots)) (ltb (length out) (size slots)) 6
+      ∙ ap (λ (b : Bool). cond (not b) 13 (cond (ltb (length out) (size slots)) 6 0)) l))
       (refused 13 refl (if-true (not (row-legal own slots)) (refusal 13) fitting (ap not l)))
 
   pub written-is : (ok : Bool) → ok ≡ row-legal own slots → (n : ℕ) → n ≡ size slots → (k : ℕ)

@@ -8,12 +8,12 @@ use lib.ListN.{length, take}
 use Rattle.octets.specs.Text.{Text, is-name}
 use Rattle.octets.specs.Part.{bare}
 use Rattle.partner.specs.declared.Entry.{Entry}
-use Rattle.image.specs.Table.{Table, legal, AllHeld}
+use Rattle.partner.specs.Table.{Table, legal, AllHeld}
 use Rattle.image.specs.Image.{encode, decode}
 use Rattle.calls.specs.Calls.{Call, run, refuse}
 use Rattle.outcome.specs.Report.{report, replied}
-use Rattle.sight.specs.Table.{table}
-use Rattle.row.specs.Calls.{over, read-row, written}
+use Rattle.sight.specs.Table.{table, over}
+use Rattle.row.specs.Calls.{read-row, written}
 
 pub record Claims : Type 0 where
   -- the two faces agree: on the row of an image's table every call gives the answer, the reply and the table that it

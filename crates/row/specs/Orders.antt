@@ -8,14 +8,14 @@ use Prim.Native.Nat.{ℕ, _<_, _≤_}
 use lib.ListN.{length}
 use Rattle.octets.specs.Text.{Text, is-name}
 use Rattle.partner.specs.declared.Entry.{Entry}
-use Rattle.partner.specs.Entry.{empty}
-use Rattle.image.specs.Table.{Table, legal, empties}
+use Rattle.partner.specs.Entry.{empty, filled}
+use Rattle.partner.specs.Table.{Table, legal, empties}
 use Rattle.image.specs.Image.{encode, decode}
 use Rattle.calls.specs.declared.Request.{Request}
 use Rattle.calls.specs.Outcome.{nothing, refusal, success}
-use Rattle.calls.specs.Calls.{receive, build-ksm, build-rsi, entry-of}
-use Rattle.sight.specs.Table.{table}
-use Rattle.row.specs.Calls.{over, asked, start-row, read-row, written}
+use Rattle.calls.specs.Calls.{receive, about, build-ksm, build-rsi, entry-of}
+use Rattle.sight.specs.Table.{table, over}
+use Rattle.row.specs.Calls.{slot-of, asked, start-row, read-row, written}
 use Rattle.row.specs.Stored.{start-answer, read-answer}
 
 pub record Orders : Type 0 where
@@ -23,17 +23,17 @@ pub record Orders : Type 0 where
   pub receive-6 : (own : Text) (slots : List Entry) (room : ℕ) (text : Text)
       → is-name own && legal (table own slots) ≡ true → room < 256 → over own slots (receive room text) .outcome ≡ refusal 6
   pub build-ksm-6 : (own : Text) (slots : List Entry) (room : ℕ) (id : Text) (q : Request)
-      → is-name own && legal (table own slots) ≡ true → room < 256 → over own slots (build-ksm room id q) .outcome ≡ refusal 6
+      → is-name own && legal (table own slots) ≡ true → room < 256 → over own slots (about id (build-ksm room q)) .outcome ≡ refusal 6
   pub build-rsi-6 : (own : Text) (slots : List Entry) (room : ℕ) (id contents : Text)
       → is-name own && legal (table own slots) ≡ true → room < 256
-      → over own slots (build-rsi room id contents) .outcome ≡ refusal 6
+      → over own slots (about id (build-rsi room contents)) .outcome ≡ refusal 6
   -- ask: 13, 3, else the entry
   pub ask-13 : (own : Text) (slots : List Entry) (id : Text) → is-name own && legal (table own slots) ≡ false
-      → asked own slots id ≡ record { answer = 13; entry = empty }
+      → asked own slots id ≡ record { answer = 13; slot = 64; entry = empty }
   pub ask-3 : (own : Text) (slots : List Entry) (id : Text) → is-name own && legal (table own slots) ≡ true
-      → entry-of id (table own slots) ≡ none → asked own slots id ≡ record { answer = 3; entry = empty }
+      → entry-of id (table own slots) ≡ none → asked own slots id ≡ record { answer = 3; slot = 64; entry = empty }
   pub ask-0 : (own : Text) (slots : List Entry) (id : Text) (e : Entry) → is-name own && legal (table own slots) ≡ true
-      → entry-of id (table own slots) ≡ some e → asked own slots id ≡ record { answer = 0; entry = e }
+      → entry-of id (table own slots) ≡ some e → asked own slots id ≡ record { answer = 0; slot = slot-of (filled id) slots; entry = e }
   -- start: 13 where the row has not 64 slots, 10, else 64 empty slots
   pub start-13 : (own : Text) (n : ℕ) → (n ≡ 64 → ⊥) → start-answer own n ≡ 13
   pub start-10 : (own : Text) → is-name own ≡ false → start-answer own 64 ≡ 10

@@ -2,31 +2,26 @@
 -- writing, which lays a row's records in a buffer.
 use mathlib.Core.Bool.{Bool, cond, not}
 use mathlib.Core.List.{List, [], _∷_, _++_}
-use Prim.Native.Nat.{ℕ, zero, suc, _+_}
+use Prim.Native.Nat.{ℕ, _+_}
 use lib.Dec.{eqb, ltb}
-use lib.ListN.{length, take, drop, getD}
+use lib.ListN.{length, take, drop}
 use Rattle.octets.specs.Text.{Text, is-name}
 use Rattle.octets.specs.Wrote.{over}
+use Rattle.octets.specs.First.{first}
 use Rattle.partner.specs.declared.Entry.{Entry}
 use Rattle.partner.specs.Entry as entries
+use Rattle.calls.specs.Outcome.{refusal}
 use Rattle.outcome.specs.declared.Report.{Report}
-use Rattle.outcome.specs.declared.Telling.the-variants.{Nothing}
-use Rattle.outcome.specs.Report.{refusal-report, no-date}
-use Rattle.image.specs.Image as images
+use Rattle.outcome.specs.Report.{report, plain}
 use Rattle.image.specs.Image.{decode, found, slots-in, slot-bytes, slots-bytes, ours}
-
--- n records on from a place
-abbrev pub place : ℕ → ℕ → Text → ℕ
-place at zero image = at
-place at (suc n) image = place (at + images.record-length (getD image at 0)) n image
 
 -- start: 13, 10
 unfoldable pub start-answer : Text → ℕ → ℕ
-start-answer own slots = cond (not (eqb slots 64)) 13 (cond (not (is-name own)) 10 0)
+start-answer own slots = first ((not (eqb slots 64), 13) ∷ (not (is-name own), 10) ∷ [])
 
 -- image reading: 13
 unfoldable pub read-answer : Text → ℕ → ℕ
-read-answer image slots = cond (not (eqb slots 64)) 13 (cond (not (found (decode image))) 13 0)
+read-answer image slots = first ((not (eqb slots 64), 13) ∷ (not (found (decode image)), 13) ∷ [])
 
 -- how many slots are filled
 unfoldable pub filled : ℕ → ℕ → ℕ
@@ -49,7 +44,7 @@ size slots = 17 + length (slots-bytes slots)
 
 -- 13, 6
 unfoldable pub write-answer : Bool → ℕ → ℕ → ℕ
-write-answer legal size room = cond (not legal) 13 (cond (ltb room size) 6 0)
+write-answer legal size room = first ((not legal, 13) ∷ (ltb room size, 6) ∷ [])
 
 -- a slot's record at a place, and the place behind it; where there is no room for it, nothing
 unfoldable pub put-slot : ℕ → Entry → Text → Text
@@ -76,5 +71,4 @@ fronted answer own out = cond (not (eqb answer 0)) out (over (front own) out)
 -- what is reported
 unfoldable pub write-report : ℕ → ℕ → Report
 write-report answer size =
-    cond (not (eqb answer 0)) (refusal-report answer)
-    (record { answer = 0; letters = 0; length = size; telling = Nothing; date = no-date })
+    cond (not (eqb answer 0)) (report (refusal answer)) (plain 0 0 size)

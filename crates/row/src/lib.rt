@@ -1,26 +1,25 @@
-// The calls of document 01 over a lent row of entry structs: each looks the row over, turns one entry and puts it back.
+// The calls of document 01 over a lent row of entry structs: one function for all that turn an entry, and ask, start, image
+// reading and image writing.
 ghost use mathlib.Core.Path.{_≡_};
 ghost use lib.ListN.{length, set, getD, drop};
 ghost use Rattle.partner.specs.Entry.{empty};
-ghost use Rattle.image.specs.Table.{identities, differs};
-ghost use Rattle.calls.specs.Calls as every;
-ghost use Rattle.outcome.specs.Report as report;
+ghost use Rattle.partner.specs.Table.{identities, differs};
+ghost use Rattle.sight.specs.Asked.{call-of};
 ghost use Rattle.sight.specs.Sight as sights;
 ghost use Rattle.sight.specs.Table.{row-legal};
 ghost use Rattle.row.specs.Calls as calls;
 ghost use Rattle.row.specs.Stored as stored;
 
-mod acts;
+mod parts;
 mod stored;
 
-use calls::Request;
-use keying::Top;
 use outcome::Report;
 use outcome::Turned;
 use partner::Entry;
 pub use sight::Found;
 use sight::Sight;
 use sight::aims;
+use sight::aims::Act;
 use sight::aims::Aim;
 
 // The entry of a slot; an empty one past the end.
@@ -89,88 +88,26 @@ fn settle(row: &mut [Entry], seen: Sight, turned: Turned) -> Report
     ensures { λ r. ⌜ r ≡ turned .report ⌝ }
     ensures { λ r. ⌜ now (row .exit) ≡ set (now (row .entry)) (seen .at) (turned .entry) ⌝ }
 {
-    replace(row, sight::place(seen), acts::entry(turned));
-    acts::told(turned)
+    replace(row, sight::place(seen), parts::entry(turned));
+    parts::told(turned)
 }
 
-// Receive: 13, 6, 1, 2, 3, then by class.
-pub fn receive(row: &mut [Entry], own: &[u8], text: &[u8], reply: &mut [u8]) -> Report
-    ensures { λ r. ⌜ r ≡ report.report (calls.over (now (own .entry)) (now (row .entry)) (every.receive (length (now (reply .entry))) (now (text .entry))) .outcome) ⌝ }
-    ensures { λ r. ⌜ now (row .exit) ≡ calls.over (now (own .entry)) (now (row .entry)) (every.receive (length (now (reply .entry))) (now (text .entry))) .table .slots ⌝ }
-    ensures { λ r. ⌜ now (reply .exit) ≡ report.replied (calls.over (now (own .entry)) (now (row .entry)) (every.receive (length (now (reply .entry))) (now (text .entry))) .outcome) (now (reply .entry)) ⌝ }
-{
-    let aim = aims::of_text(own, text);
-    let seen = survey(row, aim);
-    let turned = acts::act(own, aim, seen, acts::receipt(), text, reply);
-    settle(row, seen, turned)
-}
-
-// Build a KSM: 13, 6, 3, 7, 8, 11, 12.
-pub fn build_ksm(
+// Every call: whom it is about, what is seen of the row, the turn of one entry, and it put back.
+pub fn call(
     row: &mut [Entry],
     own: &[u8],
-    partner: &[u8],
-    request: Request,
+    who: &[u8],
+    act: Act,
+    text: &[u8],
     reply: &mut [u8],
 ) -> Report
-    ensures { λ r. ⌜ r ≡ report.report (calls.over (now (own .entry)) (now (row .entry)) (every.build-ksm (length (now (reply .entry))) (now (partner .entry)) request) .outcome) ⌝ }
-    ensures { λ r. ⌜ now (row .exit) ≡ calls.over (now (own .entry)) (now (row .entry)) (every.build-ksm (length (now (reply .entry))) (now (partner .entry)) request) .table .slots ⌝ }
-    ensures { λ r. ⌜ now (reply .exit) ≡ report.replied (calls.over (now (own .entry)) (now (row .entry)) (every.build-ksm (length (now (reply .entry))) (now (partner .entry)) request) .outcome) (now (reply .entry)) ⌝ }
+    ensures { λ r. ⌜ calls.Called (now (own .entry)) (now (row .entry))
+        (call-of act (length (now (reply .entry))) (now (who .entry)) (now (text .entry)))
+        (now (reply .entry)) r (now (row .exit)) (now (reply .exit)) ⌝ }
 {
-    let aim = aims::at_partner(own, partner);
+    let aim = aims::aim_of(own, who, act, text);
     let seen = survey(row, aim);
-    let turned = acts::act(own, aim, seen, acts::key_message(request), partner, reply);
-    settle(row, seen, turned)
-}
-
-// Build an RSI: 13, 6, 3, 12.
-pub fn build_rsi(
-    row: &mut [Entry],
-    own: &[u8],
-    partner: &[u8],
-    service: &[u8],
-    reply: &mut [u8],
-) -> Report
-    ensures { λ r. ⌜ r ≡ report.report (calls.over (now (own .entry)) (now (row .entry)) (every.build-rsi (length (now (reply .entry))) (now (partner .entry)) (now (service .entry))) .outcome) ⌝ }
-    ensures { λ r. ⌜ now (row .exit) ≡ calls.over (now (own .entry)) (now (row .entry)) (every.build-rsi (length (now (reply .entry))) (now (partner .entry)) (now (service .entry))) .table .slots ⌝ }
-    ensures { λ r. ⌜ now (reply .exit) ≡ report.replied (calls.over (now (own .entry)) (now (row .entry)) (every.build-rsi (length (now (reply .entry))) (now (partner .entry)) (now (service .entry))) .outcome) (now (reply .entry)) ⌝ }
-{
-    let aim = aims::at_partner(own, partner);
-    let seen = survey(row, aim);
-    let turned = acts::act(own, aim, seen, acts::service_message(), service, reply);
-    settle(row, seen, turned)
-}
-
-// Give up: 13, 3, 5.
-pub fn give_up(row: &mut [Entry], own: &[u8], partner: &[u8]) -> Report
-    ensures { λ r. ⌜ r ≡ report.report (calls.over (now (own .entry)) (now (row .entry)) (every.give-up (now (partner .entry))) .outcome) ⌝ }
-    ensures { λ r. ⌜ now (row .exit) ≡ calls.over (now (own .entry)) (now (row .entry)) (every.give-up (now (partner .entry))) .table .slots ⌝ }
-{
-    let aim = aims::at_partner(own, partner);
-    let seen = survey(row, aim);
-    let turned = acts::give_up(own, aim, seen);
-    settle(row, seen, turned)
-}
-
-// Remove: 13, 3.
-pub fn remove(row: &mut [Entry], own: &[u8], partner: &[u8]) -> Report
-    ensures { λ r. ⌜ r ≡ report.report (calls.over (now (own .entry)) (now (row .entry)) (every.remove (now (partner .entry))) .outcome) ⌝ }
-    ensures { λ r. ⌜ now (row .exit) ≡ calls.over (now (own .entry)) (now (row .entry)) (every.remove (now (partner .entry))) .table .slots ⌝ }
-{
-    let aim = aims::at_partner(own, partner);
-    let seen = survey(row, aim);
-    let turned = acts::remove(own, aim, seen);
-    settle(row, seen, turned)
-}
-
-// Load: 13, 10, 12, 11, 9; it takes the lowest free slot.
-pub fn load(row: &mut [Entry], own: &[u8], partner: &[u8], name: &[u8], top: Top) -> Report
-    ensures { λ r. ⌜ r ≡ report.report (calls.over (now (own .entry)) (now (row .entry)) (every.load (now (partner .entry)) (now (name .entry)) top) .outcome) ⌝ }
-    ensures { λ r. ⌜ now (row .exit) ≡ calls.over (now (own .entry)) (now (row .entry)) (every.load (now (partner .entry)) (now (name .entry)) top) .table .slots ⌝ }
-{
-    let aim = aims::at_free_slot(own, partner);
-    let seen = survey(row, aim);
-    let turned = acts::load(aim, seen, name, top);
+    let turned = turn::take(own, aim, seen, act, text, reply);
     settle(row, seen, turned)
 }
 
@@ -181,15 +118,14 @@ fn fill(row: &mut [Entry], image: &[u8], answer: u32)
     let count = stored::filled(answer, row.len());
     let mut at = 0;
     while at < count {
-        row[at] = stored::slot(image, at);
+        row[at] = image::slot(image, at);
         at += 1;
     }
 }
 
 // Start: 13, 10. Behind our identity alone nothing is stored, so every slot is empty.
 pub fn start(row: &mut [Entry], own: &[u8]) -> u32
-    ensures { λ r. ⌜ r ≡ stored.start-answer (now (own .entry)) (length (now (row .entry))) ⌝ }
-    ensures { λ r. ⌜ now (row .exit) ≡ calls.start-row (now (own .entry)) (now (row .entry)) ⌝ }
+    ensures { λ r. ⌜ calls.Started (now (own .entry)) (now (row .entry)) r (now (row .exit)) ⌝ }
 {
     let answer = stored::start_answer(own, row.len());
     fill(row, own, answer);
@@ -198,8 +134,7 @@ pub fn start(row: &mut [Entry], own: &[u8]) -> u32
 
 // Image reading: 13. The table that the image holds, slot by slot.
 pub fn read_image(image: &[u8], row: &mut [Entry]) -> u32
-    ensures { λ r. ⌜ r ≡ stored.read-answer (now (image .entry)) (length (now (row .entry))) ⌝ }
-    ensures { λ r. ⌜ now (row .exit) ≡ calls.read-row (now (image .entry)) (now (row .entry)) ⌝ }
+    ensures { λ r. ⌜ calls.Image-read (now (image .entry)) (now (row .entry)) r (now (row .exit)) ⌝ }
 {
     let answer = stored::read_answer(image, row.len());
     fill(row, image, answer);
@@ -234,8 +169,7 @@ fn lay(row: &[Entry], out: &mut [u8], answer: u32)
 
 // Image writing: 13, 6 (the image does not fit). The whole image at the front of `out`, its length in the report.
 pub fn write_image(row: &[Entry], own: &[u8], out: &mut [u8]) -> Report
-    ensures { λ r. ⌜ r ≡ report.report (calls.written (now (own .entry)) (now (row .entry)) (length (now (out .entry)))) ⌝ }
-    ensures { λ r. ⌜ now (out .exit) ≡ report.replied (calls.written (now (own .entry)) (now (row .entry)) (length (now (out .entry)))) (now (out .entry)) ⌝ }
+    ensures { λ r. ⌜ calls.Image-written (now (own .entry)) (now (row .entry)) (now (out .entry)) r (now (out .exit)) ⌝ }
 {
     let ours = legal(row, own);
     let size = size(row);

@@ -1,67 +1,27 @@
-// A stored image, slot by slot, and what start, image reading and image writing answer.
+// What start, image reading and image writing answer, and a row's records laid in a buffer.
 ghost use mathlib.Core.Path.{_≡_};
 ghost use Prim.Native.Nat.{_≤_};
-ghost use lib.ListN.{length, drop, getD};
-ghost use Rattle.partner.specs.Entry.{empty};
+ghost use lib.ListN.{length};
 ghost use Rattle.octets.specs.Wrote.{Wrote, over};
-ghost use Rattle.image.specs.Image.{slots-in, slot-bytes};
+ghost use Rattle.image.specs.Image.{slot-bytes};
 ghost use Rattle.row.specs.Stored as stored;
 use outcome::Report;
-use outcome::Telling;
 use partner::Entry;
-
-// Where the record of a slot stands.
-fn place_of(image: &[u8], slot: usize) -> usize
-    requires { ⌜ slot ≤ 64 ⌝ }
-    ensures { λ r. ⌜ r ≡ stored.place 17 slot (now (image .entry)) ⌝ }
-{
-    let mut at = 17;
-    let mut left = slot;
-    while 0 < left {
-        at += image::record_length(image::byte_at(image, at));
-        left -= 1;
-    }
-    at
-}
-
-// The entry of a slot, taken at the image's word; past the 64th an empty one.
-pub fn slot(image: &[u8], slot: usize) -> Entry
-    ensures { λ r. ⌜ r ≡ getD (slots-in 64 (drop 17 (now (image .entry)))) slot empty ⌝ }
-{
-    if 64 <= slot {
-        return partner::empty();
-    }
-    let at = place_of(image, slot);
-    if image::byte_at(image, at) == 2 {
-        return image::entry_at(image, at);
-    }
-    partner::empty()
-}
 
 // Start: 13 (the row has not 64 slots), 10 (our identity is malformed).
 pub fn start_answer(own: &[u8], slots: usize) -> u32
     ensures { λ r. ⌜ r ≡ stored.start-answer (now (own .entry)) slots ⌝ }
 {
-    if slots != 64 {
-        return 13;
-    }
-    if !octets::is_name(own) {
-        return 10;
-    }
-    0
+    let answer = octets::then(0, slots != 64, 13);
+    octets::then(answer, !octets::is_name(own), 10)
 }
 
 // Image reading: 13 (the row has not 64 slots, or the image is not legal).
 pub fn read_answer(image: &[u8], slots: usize) -> u32
     ensures { λ r. ⌜ r ≡ stored.read-answer (now (image .entry)) slots ⌝ }
 {
-    if slots != 64 {
-        return 13;
-    }
-    if !image::legal(image) {
-        return 13;
-    }
-    0
+    let answer = octets::then(0, slots != 64, 13);
+    octets::then(answer, !image::legal(image), 13)
 }
 
 // How many slots are to be filled: 64 with the answer 0, else none.
@@ -118,13 +78,8 @@ pub fn put_slot(out: &mut [u8], at: usize, e: Entry) -> usize
 pub fn write_answer(legal: bool, size: usize, room: usize) -> u32
     ensures { λ r. ⌜ r ≡ stored.write-answer legal size room ⌝ }
 {
-    if !legal {
-        return 13;
-    }
-    if room < size {
-        return 6;
-    }
-    0
+    let answer = octets::then(0, !legal, 13);
+    octets::then(answer, room < size, 6)
 }
 
 // Our identity's record, filled: 17 bytes, as many as there is room for.
@@ -146,11 +101,5 @@ pub fn written(out: &mut [u8], own: &[u8], answer: u32, size: usize) -> Report
         return outcome::refusal(answer);
     }
     put_front(out, own);
-    Report {
-        answer: 0,
-        letters: 0,
-        length: size,
-        telling: Telling::Nothing,
-        date: outcome::no_date(),
-    }
+    outcome::told_nothing(size)
 }

@@ -15,7 +15,12 @@ use Rattle.reader.specs.Seen.{seen, head-seen}
 use Rattle.reader.specs.Parts as parts
 use Rattle.reader.proofs.Claims.{claims}
 use Rattle.reader.proofs.SeenBack.{nothing-back, rsi-back, ksm-back, rsm-back, esm-back, option-back}
-use Rattle.sight.specs.Aim.{at-partner, refused, originator, of-reading, of-text}
+use Rattle.sight.specs.declared.aims.Act.{Act}
+use Rattle.sight.specs.Aim.{at-partner, refused, originator, of-reading, of-text, aim-of}
+
+-- the act that is asked for
+pub aims-as : {x : Act} (q : Act) (own who text : Text) → q ≡ x → aim-of x own who text ≡ aim-of q own who text
+aims-as q own who text h = ap (λ (x : Act). aim-of x own who text) (sym h)
 
 -- RCV and ORG of a text are those of its reading
 originator-read : (own t : Text) (q : Reading) → read t ≡ some q → originator own t (head-seen q) ≡ of-text own t

@@ -31,11 +31,14 @@ shown κs a x y v w p q = (alike p q, refl)
 pub at-partner : One-outcome fn.aims.at_partner.ended fn.aims.at_partner.Reads.Post
 at-partner κs a x y v w p q = (alike p q, refl)
 
-pub at-free-slot : One-outcome fn.aims.at_free_slot.ended fn.aims.at_free_slot.Reads.Post
-at-free-slot κs a x y v w p q = (alike p q, refl)
-
 pub ours : One-outcome fn.aims.ours.ended fn.aims.ours.Reads.Post
 ours κs a x y v w p q = (alike p q, refl)
 
-pub of-text : One-outcome fn.aims.of_text.ended fn.aims.of_text.Reads.Post
-of-text κs a x y v w p q = (alike p q, refl)
+pub aim-of : One-outcome fn.aims.aim_of.ended fn.aims.aim_of.Reads.Post
+aim-of κs a x y v w p q = (alike p q, refl)
+
+pub with-room : One-outcome fn.aims.with_room.ended fn.aims.with_room.Reads.Post
+with-room κs a x y v w p q = (alike p q, refl)
+
+pub request-in : One-outcome fn.request.request_in.ended fn.request.request_in.Reads.Post
+request-in κs a x y v w p q = (alike p q, refl)

@@ -15,7 +15,7 @@ use Rattle.partner.specs.declared.Entry.{Entry}
 use Rattle.partner.specs.Entry.{filled}
 use Rattle.partner.specs.Legal as partner
 use Rattle.partner.proofs.Claims.{claims}
-use Rattle.image.specs.Table.{is-empty, slots-legal, identities, differs, apart, legal}
+use Rattle.partner.specs.Table.{is-empty, slots-legal, identities, differs, apart, legal}
 use Rattle.sight.specs.declared.aims.Aim.{Aim}
 use Rattle.sight.specs.declared.Sight.{Sight}
 use Rattle.sight.specs.Sight.{slot-legal, is-sought, unseen, see, pass, concluded, survey}
@@ -116,6 +116,14 @@ abbrev pub putting : (Entry → Bool) → Entry → List Entry → List Entry
 putting f x [] = []
 putting f x (e ∷ slots) = cond (f e) (x ∷ slots) (e ∷ putting f x slots)
 
+-- its number; past the end where there is none
+abbrev pub index : (Entry → Bool) → List Entry → ℕ
+index f [] = 0
+index f (e ∷ slots) = cond (f e) 0 (suc (index f slots))
+
+further : (at i : ℕ) → (at + 1) + i ≡ at + suc i
+further at i = omega arith
+
 neither : (b c : Bool) → b ≡ false → c ≡ false → b || c ≡ false
 neither b c x y = rw (x, y)
 
@@ -138,13 +146,12 @@ module _ (a : Aim) where
       or-left : (b c : Bool) → b ≡ true → b || c ≡ true
       or-left b c h = rw h
 
-  -- where the slot is that is sought: k slots on
+  -- where the slot is that is sought
   pub record Hit (s : Sight) (at : ℕ) (slots : List Entry) (e : Entry) : Type 0 where
     pub there : pass a s at slots .there ≡ true
     pub entry : pass a s at slots .entry ≡ e
-    pub steps : ℕ
-    pub place : pass a s at slots .at ≡ at + steps
-    pub puts : (x : Entry) → set slots steps x ≡ putting (is-sought a) x slots
+    pub place : pass a s at slots .at ≡ at + index (is-sought a) slots
+    pub puts : (x : Entry) → set slots (index (is-sought a) slots) x ≡ putting (is-sought a) x slots
 
   -- the first is found
   pub hits : (s : Sight) (at : ℕ) (slots : List Entry) (e : Entry) → s .there ≡ false → first (is-sought a) slots ≡ some e
@@ -165,9 +172,10 @@ module _ (a : Aim) where
           record {
             there = k .0;
             entry = k .1 .1 ∙ renewed (s .there) (is-sought a f) (s .entry) f n q ∙ p;
-            steps = 0;
-            place = k .1 .0 ∙ renewed (s .there) (is-sought a f) (s .at) at n q ∙ sym (add-zero at);
-            puts = λ x. sym (ap (λ (b : Bool). cond b (x ∷ slots) (f ∷ putting (is-sought a) x slots)) q);
+            place = k .1 .0 ∙ renewed (s .there) (is-sought a f) (s .at) at n q ∙ sym (add-zero at)
+                ∙ sym (ap (λ (b : Bool). at + cond b 0 (suc (index (is-sought a) slots))) q);
+            puts = λ x. ap (λ (b : Bool). set (f ∷ slots) (cond b 0 (suc (index (is-sought a) slots))) x) q
+                ∙ sym (ap (λ (b : Bool). cond b (x ∷ slots) (f ∷ putting (is-sought a) x slots)) q);
           }
         where
           here : (b c : Bool) → c ≡ true → b || c ≡ true
@@ -178,9 +186,10 @@ module _ (a : Aim) where
           record {
             there = k .there;
             entry = k .entry;
-            steps = suc (k .steps);
-            place = k .place ∙ omega arith;
-            puts = λ x. ap (λ (l : List Entry). f ∷ l) (k .puts x)
+            place = k .place ∙ further at (index (is-sought a) slots)
+                ∙ sym (ap (λ (b : Bool). at + cond b 0 (suc (index (is-sought a) slots))) q);
+            puts = λ x. ap (λ (b : Bool). set (f ∷ slots) (cond b 0 (suc (index (is-sought a) slots))) x) q
+                ∙ ap (λ (l : List Entry). f ∷ l) (k .puts x)
                 ∙ sym (ap (λ (b : Bool). cond b (x ∷ slots) (f ∷ putting (is-sought a) x slots)) q);
           }
 
@@ -202,6 +211,16 @@ module _ (a : Aim) where
       go true q h ih = absurd (none-some f (sym h))
       go false q h ih = ih (neither (s .there) (is-sought a f) n q) h
 
+-- put back as it was
+pub putting-first : (f : Entry → Bool) (l : List Entry) (e : Entry) → first f l ≡ some e → putting f e l ≡ l
+putting-first f [] e h = refl
+putting-first f (x ∷ l) e h = go (f x) h (putting-first f l e)
+  where
+    go : (b : Bool) → cond b (some x) (first f l) ≡ some e → (first f l ≡ some e → putting f e l ≡ l)
+        → cond b (e ∷ l) (x ∷ putting f e l) ≡ x ∷ l
+    go true h ih = ap (λ (y : Entry). y ∷ l) (sym (some-inj h))
+    go false h ih = ap (λ (m : List Entry). x ∷ m) (ih h)
+
 -- ---- the whole row
 
 module _ (a : Aim) (slots : List Entry) where
@@ -209,19 +228,20 @@ module _ (a : Aim) (slots : List Entry) where
   pub record Found (e : Entry) : Type 0 where
     pub there : survey a slots .there ≡ true
     pub entry : survey a slots .entry ≡ e
+    pub place : survey a slots .at ≡ index (is-sought a) slots
     pub puts : (x : Entry) → set slots (survey a slots .at) x ≡ putting (is-sought a) x slots
 
   pub survey-found : (e : Entry) → first (is-sought a) slots ≡ some e → Found e
   unfolding survey concluded
   survey-found e h =
       let k = hits a unseen 0 slots e refl h in
+      let p : cond (pass a unseen 0 slots .there) (pass a unseen 0 slots .at) (length slots) ≡ index (is-sought a) slots =
+      ap (λ (b : Bool). cond b (pass a unseen 0 slots .at) (length slots)) (k .there) ∙ k .place ∙ zero-add (index (is-sought a) slots) in
       record {
         there = k .there;
         entry = k .entry;
-        puts = λ x.
-            ap (λ (i : ℕ). set slots i x)
-            (ap (λ (b : Bool). cond b (pass a unseen 0 slots .at) (length slots)) (k .there) ∙ k .place ∙ zero-add (k .steps))
-            ∙ k .puts x;
+        place = p;
+        puts = λ x. ap (λ (i : ℕ). set slots i x) p ∙ k .puts x;
       }
 
   -- not found: nothing is put anywhere
@@ -235,16 +255,6 @@ module _ (a : Aim) (slots : List Entry) where
             ap (λ (b : Bool). set slots (cond b (pass a unseen 0 slots .at) (length slots)) x) n
             ∙ set-out slots (length slots) x (omega arith),
       )
-
-  -- put back as it was
-  putting-first : (f : Entry → Bool) (l : List Entry) (e : Entry) → first f l ≡ some e → putting f e l ≡ l
-  putting-first f [] e h = refl
-  putting-first f (x ∷ l) e h = go (f x) h (putting-first f l e)
-    where
-      go : (b : Bool) → cond b (some x) (first f l) ≡ some e → (first f l ≡ some e → putting f e l ≡ l)
-          → cond b (e ∷ l) (x ∷ putting f e l) ≡ x ∷ l
-      go true h ih = ap (λ (y : Entry). y ∷ l) (sym (some-inj h))
-      go false h ih = ap (λ (m : List Entry). x ∷ m) (ih h)
 
   pub survey-keeps : set slots (survey a slots .at) (survey a slots .entry) ≡ slots
   survey-keeps = go (first (is-sought a) slots) refl

@@ -10,7 +10,7 @@ use lib.ListN.{length, drop, getD, drop-of-length-le}
 use lib.Seq.{drop-cons}
 use Rattle.partner.specs.declared.Entry.{Entry}
 use Rattle.partner.specs.Entry.{empty}
-use Rattle.image.specs.Table.{identities, differs}
+use Rattle.partner.specs.Table.{identities, differs}
 use Rattle.sight.specs.declared.aims.Aim.{Aim}
 use Rattle.sight.specs.declared.Sight.{Sight}
 use Rattle.sight.specs.Sight.{slot-legal, is-theirs, is-sought, unseen, see, pass, concluded, survey}

@@ -1,4 +1,5 @@
--- Whom a call is about: our identity and the partner's, and what a text is refused for before its partner is looked up.
+-- Whom a call is about: our identity and the partner's, what a text is refused for before its partner is looked up, and the
+-- room that is asked for.
 use mathlib.Core.Bool.{true, false, not, cond}
 use mathlib.Core.List.{[]}
 use mathlib.Core.Option.{Option, none, some}
@@ -9,6 +10,8 @@ use Rattle.partner.specs.Entry.{name-of}
 use Rattle.reader.specs.declared.Head.{Head}
 use Rattle.reader.specs.Parts as parts
 use Rattle.sight.specs.declared.aims.Aim.{Aim}
+use Rattle.sight.specs.declared.aims.Act.{Act}
+use Rattle.sight.specs.declared.aims.Act.the-variants.{Receive, BuildKsm, BuildRsi, GiveUp, Remove, Ask, Load}
 
 -- a partner by its identity
 abbrev pub at-partner : Text → Text → Aim
@@ -19,6 +22,7 @@ at-partner own id = record {
   theirs = is-name id;
   vacant = false;
   answer = 0;
+  room = 0;
 }
 
 -- a free slot for a partner
@@ -30,6 +34,7 @@ at-free-slot own id = record {
   theirs = is-name id;
   vacant = true;
   answer = 0;
+  room = 0;
 }
 
 -- nobody: the text is refused
@@ -41,6 +46,7 @@ refused own n = record {
   theirs = is-name [];
   vacant = false;
   answer = n;
+  room = 0;
 }
 
 -- the originator of a text to us, by the lengths of RCV and ORG; 2 where RCV is not us
@@ -55,3 +61,26 @@ of-reading own (some r) = cond (not (same (r .rcv) own)) (refused own 2) (at-par
 
 abbrev pub of-text : Text → Text → Aim
 of-text own text = of-reading own (read text)
+
+-- the same, and this room is asked for
+abbrev pub with-room : Aim → ℕ → Aim
+with-room a room = record {
+  own = a .own;
+  ours = a .ours;
+  partner = a .partner;
+  theirs = a .theirs;
+  vacant = a .vacant;
+  answer = a .answer;
+  room = room;
+}
+
+-- by whom, of whom, and the text that goes with it: a reply may follow what is received and what is built; a load seeks a
+-- free slot
+unfoldable pub aim-of : Act → Text → Text → Text → Aim
+aim-of Receive own who text = with-room (of-text own text) 256
+aim-of BuildKsm own who text = with-room (at-partner own who) 256
+aim-of BuildRsi own who text = with-room (at-partner own who) 256
+aim-of GiveUp own who text = at-partner own who
+aim-of Remove own who text = at-partner own who
+aim-of Ask own who text = at-partner own who
+aim-of (Load top) own who text = at-free-slot own who

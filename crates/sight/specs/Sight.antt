@@ -5,10 +5,11 @@ use Prim.Native.Nat.{ℕ, _+_}
 use lib.Dec.{eqb}
 use lib.ListN.{length}
 use Rattle.octets.specs.Text.{same}
+use Rattle.octets.specs.First.{first}
 use Rattle.partner.specs.declared.Entry.{Entry}
 use Rattle.partner.specs.Entry.{empty}
 use Rattle.partner.specs.Legal as partner
-use Rattle.image.specs.Table.{is-empty, identities, differs}
+use Rattle.partner.specs.Table.{is-empty, identities, differs}
 use Rattle.sight.specs.declared.aims.Aim.{Aim}
 use Rattle.sight.specs.declared.Sight.{Sight}
 use Rattle.sight.specs.declared.Found.{Found}
@@ -64,13 +65,15 @@ concluded a s count = record {
 unfoldable pub survey : Aim → List Entry → Sight
 survey a slots = concluded a (pass a unseen 0 slots) (length slots)
 
--- ---- the answer to who asks for an entry, and the entry or an empty one
+-- ---- the answer to who asks for an entry, the number of its slot and the entry
 
-abbrev pub shown-at : ℕ → Entry → Found
-shown-at n e = record { answer = n; entry = e }
+abbrev pub shown-at : ℕ → ℕ → Entry → Found
+shown-at n slot e = record { answer = n; slot = slot; entry = e }
 
 -- 13, 3
+abbrev pub shown-answer : Sight → ℕ
+shown-answer s = first ((not (s .legal), 13) ∷ (not (s .there), 3) ∷ [])
+
+-- past the last slot and an empty entry with a refusal
 unfoldable pub shown : Sight → Found
-shown s =
-    cond (not (s .legal)) (shown-at 13 empty)
-    (cond (not (s .there)) (shown-at 3 empty) (shown-at 0 (s .entry)))
+shown s = cond (eqb (shown-answer s) 0) (shown-at 0 (s .at) (s .entry)) (shown-at (shown-answer s) 64 empty)

@@ -1,12 +1,24 @@
-// Whom a call is about.
+// What a call asks, and whom it is about.
 ghost use mathlib.Core.Path.{_≡_};
 ghost use Rattle.sight.specs.Aim as aims;
+use keying::Top;
 use partner::Name;
 use reader::Head;
 use reader::Message;
 
+// What a call asks. The text that came, the request's bytes, the contents of SVR or the new key's name is lent beside it.
+pub enum Act {
+    Receive,
+    BuildKsm,
+    BuildRsi,
+    GiveUp,
+    Remove,
+    Ask,
+    Load(Top),
+}
+
 // Our identity and the partner's, filled with blanks, whether each is well-formed, and whether a free slot is sought;
-// the answer that a text gets before its partner is looked up, or 0.
+// the answer that a text gets before its partner is looked up, or 0; the room that is asked for.
 pub struct Aim {
     pub own: Name,
     pub ours: bool,
@@ -14,6 +26,7 @@ pub struct Aim {
     pub theirs: bool,
     pub vacant: bool,
     pub answer: u32,
+    pub room: usize,
 }
 
 // A partner by its identity.
@@ -27,11 +40,12 @@ pub fn at_partner(own: &[u8], partner: &[u8]) -> Aim
         theirs: octets::is_name(partner),
         vacant: false,
         answer: 0,
+        room: 0,
     }
 }
 
 // A free slot for a partner.
-pub fn at_free_slot(own: &[u8], partner: &[u8]) -> Aim
+fn at_free_slot(own: &[u8], partner: &[u8]) -> Aim
     ensures { λ r. ⌜ r ≡ aims.at-free-slot (now (own .entry)) (now (partner .entry)) ⌝ }
 {
     let mut aim = at_partner(own, partner);
@@ -66,7 +80,7 @@ fn originator(own: &[u8], text: &[u8], head: Head) -> Aim
 }
 
 // The originator of a text; 1 where it is no message.
-pub fn of_text(own: &[u8], text: &[u8]) -> Aim
+fn of_text(own: &[u8], text: &[u8]) -> Aim
     ensures { λ r. ⌜ r ≡ aims.of-text (now (own .entry)) (now (text .entry)) ⌝ }
 {
     match reader::read(text) {
@@ -76,5 +90,29 @@ pub fn of_text(own: &[u8], text: &[u8]) -> Aim
         Message::Esm(m) => originator(own, text, m.head),
         Message::Option(m) => originator(own, text, m.head),
         Message::Nothing => refused(own, 1),
+    }
+}
+
+// The same, and this room is asked for.
+pub fn with_room(aim: Aim, room: usize) -> Aim
+    ensures { λ r. ⌜ r ≡ aims.with-room aim room ⌝ }
+{
+    let mut roomy = aim;
+    roomy.room = room;
+    roomy
+}
+
+// Whom a call is about: a reply may follow what is received and what is built; a load seeks a free slot.
+pub fn aim_of(own: &[u8], who: &[u8], act: Act, text: &[u8]) -> Aim
+    ensures { λ r. ⌜ r ≡ aims.aim-of act (now (own .entry)) (now (who .entry)) (now (text .entry)) ⌝ }
+{
+    match act {
+        Act::Receive => with_room(of_text(own, text), 256),
+        Act::BuildKsm => with_room(at_partner(own, who), 256),
+        Act::BuildRsi => with_room(at_partner(own, who), 256),
+        Act::GiveUp => at_partner(own, who),
+        Act::Remove => at_partner(own, who),
+        Act::Ask => at_partner(own, who),
+        Act::Load(_) => at_free_slot(own, who),
     }
 }

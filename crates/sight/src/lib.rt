@@ -2,10 +2,11 @@
 ghost use mathlib.Core.Path.{_≡_};
 ghost use mathlib.Core.Bool.{_&&_, _||_};
 ghost use Rattle.octets.specs.Text.{same};
-ghost use Rattle.image.specs.Table.{is-empty};
+ghost use Rattle.partner.specs.Table.{is-empty};
 ghost use Rattle.sight.specs.Sight as sights;
 
 pub mod aims;
+pub mod request;
 
 use aims::Aim;
 use partner::Entry;
@@ -21,9 +22,10 @@ pub struct Sight {
     pub entry: Entry,
 }
 
-// An entry asked for: the answer, and the entry or an empty one.
+// What was looked up: the answer so far, the number of the slot, and its entry.
 pub struct Found {
     pub answer: u32,
+    pub slot: usize,
     pub entry: Entry,
 }
 
@@ -164,22 +166,22 @@ pub fn is_legal(seen: Sight) -> bool
     seen.legal
 }
 
-// The answer to who asks for an entry, and the entry.
+// The answer to who asks for an entry, the number of its slot, and the entry; 64 and an empty one with a refusal.
 pub fn shown(seen: Sight) -> Found
     ensures { λ r. ⌜ r ≡ sights.shown seen ⌝ }
 {
-    if !seen.legal {
+    let answer = octets::then(octets::then(0, !seen.legal, 13), !seen.there, 3);
+    if answer != 0 {
         return Found {
-            answer: 13,
-            entry: partner::empty(),
-        };
-    }
-    if !seen.there {
-        return Found {
-            answer: 3,
+            answer,
+            slot: 64,
             entry: partner::empty(),
         };
     }
     let entry = seen.entry;
-    Found { answer: 0, entry }
+    Found {
+        answer: 0,
+        slot: seen.at,
+        entry,
+    }
 }

@@ -1,25 +1,104 @@
-// What a call makes of one partner's entry.
+// The way of a call: the order of its answers, and the turn of one entry.
 ghost use mathlib.Core.Path.{_≡_};
+ghost use mathlib.Core.List.{[]};
 ghost use lib.ListN.{length};
+ghost use Rattle.octets.specs.First.{go};
+ghost use Rattle.calls.specs.Outcome as calls;
 ghost use Rattle.outcome.specs.Report as report;
-ghost use Rattle.outcome.specs.Acts as acts;
-use outcome::Act;
-use outcome::Asked;
-use outcome::Telling;
+ghost use Rattle.turn.specs.Way as way;
 use outcome::Turned;
 use partner::Entry;
+use partner::Name;
+use sight::Sight;
+use sight::aims::Act;
+use sight::aims::Aim;
+use sight::request;
 
-// What a call makes of one partner's entry, and its reply.
-pub fn turn(own: &[u8], e: Entry, a: Asked, text: &[u8], reply: &mut [u8]) -> Turned
-    ensures { λ r. ⌜ r ≡ report.turned (acts.act a (now (own .entry)) e (length (now (reply .entry))) (now (text .entry))) ⌝ }
-    ensures { λ r. ⌜ now (reply .exit) ≡ report.replied (acts.act a (now (own .entry)) e (length (now (reply .entry))) (now (text .entry)) .outcome) (now (reply .entry)) ⌝ }
+// ---- the order of the answers
+
+// Whether an identity is malformed, our own, or taken.
+fn unfit(aim: Aim, seen: Sight) -> bool
+    ensures { λ r. ⌜ r ≡ way.unfit aim seen ⌝ }
 {
-    let act = a.act;
+    if !aim.theirs {
+        return true;
+    }
+    if seen.taken {
+        return true;
+    }
+    let own = aim.own;
+    let partner = aim.partner;
+    octets::same(&own.bytes, &partner.bytes)
+}
+
+// Of a load: 10, 12, 11, 9.
+fn loading(before: u32, aim: Aim, seen: Sight, named: bool, odd: bool) -> u32
+    ensures { λ r. ⌜ r ≡ go before (way.loading aim seen named odd) ⌝ }
+{
+    let a = octets::then(before, unfit(aim, seen), 10);
+    let b = octets::then(a, !named, 12);
+    let c = octets::then(b, !odd, 11);
+    octets::then(c, !seen.there, 9)
+}
+
+// Of a call about an entry that is there: 1 or 2 of a text, then 3.
+fn looking_up(before: u32, aim: Aim, seen: Sight) -> u32
+    ensures { λ r. ⌜ r ≡ go before (way.looking-up aim seen) ⌝ }
+{
+    let a = octets::then(before, aim.answer != 0, aim.answer);
+    octets::then(a, !seen.there, 3)
+}
+
+// The refusal that comes before the turn, or 0: 13, 6, then by what is asked.
+pub fn refusal(aim: Aim, seen: Sight, act: Act, text: &[u8], room: usize) -> u32
+    ensures { λ r. ⌜ r ≡ way.refusal aim seen act (now (text .entry)) room ⌝ }
+{
+    let a = octets::then(0, !seen.legal, 13);
+    let b = octets::then(a, room < aim.room, 6);
+    match act {
+        Act::Load(top) => loading(b, aim, seen, octets::is_name(text), keying::odd_top(top)),
+        _ => looking_up(b, aim, seen),
+    }
+}
+
+// ---- the turn of one entry
+
+// 0: the entry as it is now, and nothing told.
+fn plain(e: Entry) -> Turned
+    ensures { λ r. ⌜ r ≡ report.turned (calls.done e [] calls.nothing) ⌝ }
+{
+    Turned {
+        entry: e,
+        report: outcome::told_nothing(0),
+    }
+}
+
+// What is asked of one entry; of a load the new entry, with `text` as the key's name.
+pub fn turn(own: &[u8], partner: Name, e: Entry, act: Act, text: &[u8], reply: &mut [u8]) -> Turned
+    ensures { λ r. ⌜ r ≡ report.turned (way.turn (now (own .entry)) partner e act (now (text .entry)) (length (now (reply .entry)))) ⌝ }
+    ensures { λ r. ⌜ now (reply .exit) ≡ report.replied (way.turn (now (own .entry)) partner e act (now (text .entry)) (length (now (reply .entry))) .outcome) (now (reply .entry)) ⌝ }
+{
     match act {
         Act::Receive => receiving::receive(own, e, text, reply),
-        Act::BuildKsm => building::build_ksm(own, e, a.request, reply),
+        Act::BuildKsm => building::build_ksm(own, e, request::request_in(text), reply),
         Act::BuildRsi => building::build_rsi(own, e, text, reply),
         Act::GiveUp => building::give_up(e),
-        Act::Remove => outcome::done(partner::empty(), 0, Telling::Nothing, outcome::no_date()),
+        Act::Remove => plain(partner::empty()),
+        Act::Ask => plain(e),
+        Act::Load(top) => plain(partner::loaded(partner, partner::name_of(text), top)),
     }
+}
+
+// A call over what is seen: a refusal, the entry as it was, or its turn.
+pub fn take(own: &[u8], aim: Aim, seen: Sight, act: Act, text: &[u8], reply: &mut [u8]) -> Turned
+    ensures { λ r. ⌜ r ≡ report.turned (way.take (now (own .entry)) aim seen act (now (text .entry)) (length (now (reply .entry)))) ⌝ }
+    ensures { λ r. ⌜ now (reply .exit) ≡ report.replied (way.take (now (own .entry)) aim seen act (now (text .entry)) (length (now (reply .entry))) .outcome) (now (reply .entry)) ⌝ }
+{
+    let entry = seen.entry;
+    let partner = aim.partner;
+    let answer = refusal(aim, seen, act, text, reply.len());
+    if answer != 0 {
+        return outcome::refused(entry, answer);
+    }
+    turn(own, partner, entry, act, text, reply)
 }

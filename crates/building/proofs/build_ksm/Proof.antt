@@ -32,26 +32,22 @@ outgoing-requires c κs = search needs
 issued-requires : tie.Need-issued-requires
 issued-requires c κs = search needs
 
-no-date-requires : tie.Need-no-date-requires
-no-date-requires c κs = search needs
-
-done-requires : tie.Need-done-requires
-done-requires c κs = search needs
+told-nothing-requires : tie.Need-told-nothing-requires
+told-nothing-requires c κs = search needs
 
 same-length : tie.Need-same-length
 same-length c = search needs
 
 returns-2 : tie.Need-returns-2
 returns-2 c =
-    let s = c .before .before .before .before .before .before .before .before in
+    let s = c .before .before .before .before .before .before .before in
     let a = s .before .before .before .before .args in
     let h = sym (s .before .judge .ensures) ∙ s .if1 .left in
     let g = good (a .own .now) (a .e) (length (a .reply .now)) (a .q) h in
-    let w = c .before .before .before .before .before .before .write .ensures in
+    let w = c .before .before .before .before .before .write .ensures in
     does (issued (a .e) (outgoing-of (a .q))) (ksm-text (a .own .now) (a .e) (a .q)) (a .reply .now) (g .turn)
-    (c .done .ensures)
-    (c .before .before .issued .ensures ∙ ap (issued (a .e)) (c .before .before .before .outgoing .ensures)) (w .0)
-    (c .before .no-date .ensures) (w .1)
+    (c .before .issued .ensures ∙ ap (issued (a .e)) (c .before .before .outgoing .ensures)) (c .told-nothing .ensures)
+    (w .0) (w .1)
 
 pub build-ksm-spec : {M : Type 1} → statement M
 build-ksm-spec =
@@ -63,7 +59,6 @@ build-ksm-spec =
     write-requires
     outgoing-requires
     issued-requires
-    no-date-requires
-    done-requires
+    told-nothing-requires
     same-length
     returns-2)

@@ -62,26 +62,22 @@ write-rsi-requires c κs =
       service-known w (v .0 .0) (v .0 .1 .0) (sym (c .before .before .before .before .service .ensures) ∙ v .1),
     )
 
-no-date-requires : tie.Need-no-date-requires
-no-date-requires c κs = search needs
-
-done-requires : tie.Need-done-requires
-done-requires c κs = search needs
+told-nothing-requires : tie.Need-told-nothing-requires
+told-nothing-requires c κs = search needs
 
 same-length : tie.Need-same-length
 same-length c = search needs
 
 returns-4 : tie.Need-returns-4
 returns-4 c =
-    let s = c .before .before .before .before .before .before .before .before .before .before in
+    let s = c .before .before .before .before .before .before .before .before .before in
     let a = s .before .before .before .before .before .before .args in
     let g = ready (s .before .before .is-sound .ensures) (s .before .if1 .left) (s .if2 .left) in
-    let v = c .before .before .before .before .before .before .before .value .given in
-    let n = sym (c .before .before .before .before .before .before .before .before .before .service .ensures) ∙ v .1 in
-    let w = c .before .before .before .before .write-rsi .ensures in
+    let v = c .before .before .before .before .before .before .value .given in
+    let n = sym (c .before .before .before .before .before .before .before .before .service .ensures) ∙ v .1 in
+    let w = c .before .before .before .write-rsi .ensures in
     let t = rsi-some (a .own .now) (a .e) (length (a .reply .now)) (a .contents .now) (v .0 .0) (v .0 .1 .0) g n in
-    does (a .e) (rsi-text (a .own .now) (a .e) (v .0 .0)) (a .reply .now) t (c .done .ensures) refl (w .0)
-    (c .before .no-date .ensures) (w .1)
+    does (a .e) (rsi-text (a .own .now) (a .e) (v .0 .0)) (a .reply .now) t refl (c .told-nothing .ensures) (w .0) (w .1)
 
 pub build-rsi-spec : {M : Type 1} → statement M
 build-rsi-spec =
@@ -98,7 +94,6 @@ build-rsi-spec =
     refused-requires-3
     returns-3
     write-rsi-requires
-    no-date-requires
-    done-requires
+    told-nothing-requires
     same-length
     returns-4)

@@ -25,21 +25,18 @@ returns c =
 given-up-requires : tie.Need-given-up-requires
 given-up-requires c κs = search needs
 
-no-date-requires : tie.Need-no-date-requires
-no-date-requires c κs = search needs
-
-done-requires : tie.Need-done-requires
-done-requires c κs = search needs
+told-nothing-requires : tie.Need-told-nothing-requires
+told-nothing-requires c κs = search needs
 
 returns-2 : tie.Need-returns-2
 unfolding give-up is-waiting fronted
 returns-2 c =
-    let e = c .before .before .before .before .before .args .e in
-    let h = eq-eqb (e .phase) 1 (c .before .before .before .if1 .left) in
-    does (given-up e) [] [] (if-false _ _ _ (ap not h)) (c .done .ensures)
-    (c .before .before .given-up .ensures) refl (c .before .no-date .ensures) refl .0
+    let e = c .before .before .before .before .args .e in
+    let h = eq-eqb (e .phase) 1 (c .before .before .if1 .left) in
+    does (given-up e) [] [] (if-false _ _ _ (ap not h)) (c .before .given-up .ensures) (c .told-nothing .ensures) refl
+    refl .0
 
 pub give-up-spec : {M : Type 1} → statement M
 give-up-spec =
     tie.close
-    (tie.spec refused-requires returns given-up-requires no-date-requires done-requires returns-2)
+    (tie.spec refused-requires returns given-up-requires told-nothing-requires returns-2)

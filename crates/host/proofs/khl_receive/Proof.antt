@@ -1,31 +1,20 @@
 -- `host::khl_receive` meets its contract: the call's own, and its report. Assumes nothing.
-use mathlib.Core.Path.{ap, _∙_}
-use Rattle.outcome.specs.declared.Report.{Report}
-use Rattle.outcome.specs.Report.{report}
-use Rattle.face.specs.Report.{report-bytes}
+use Rattle.host.proofs.Telling.{tells, changes-and-writes}
 use borrow.Author.Needs.{needs}
 use Rattle.host.proofs.khl_receive.Statement.{statement}
 use Rattle.host.proofs.khl_receive.Tie as tie
 
-receive-requires : tie.Need-receive-requires
-receive-requires c κs = search needs
-
-told-requires : tie.Need-told-requires
-told-requires c κs = search needs
-
-same-length : tie.Need-same-length
-same-length c = search needs
-
-same-length-2 : tie.Need-same-length-2
-same-length-2 c = search needs
-
 returns : tie.Need-returns
-unfolding report
 returns c =
     let call = c .before .before .before .before .before .receive .ensures in
-    let t = c .told .ensures in
-    (t .0 ∙ ap (λ (r : Report). r .answer) (call .0), (call .1 .0, (call .1 .1, t .1 ∙ ap report-bytes (call .0))))
+    changes-and-writes (tells _ (call .told) (c .told .ensures)) (call .stored) (call .reply)
 
 pub khl-receive-spec : {M : Type 1} → statement M
 khl-receive-spec =
-    tie.close (tie.spec receive-requires told-requires same-length same-length-2 returns)
+    tie.close
+    (tie.spec
+    (λ c κs. search needs)
+    (λ c κs. search needs)
+    (λ c. search needs)
+    (λ c. search needs)
+    returns)

@@ -2,7 +2,7 @@
 use native.Mathlib.Omega.{arith}
 use borrow.Author.Needs.{needs}
 use Rattle.image.specs.Image.{encode}
-use Rattle.image.specs.Table.{started}
+use Rattle.partner.specs.Table.{started}
 use Rattle.image.proofs.Buffers.{started-size, given-no-room, given-wrote}
 use Rattle.image.proofs.start.Statement.{statement}
 use Rattle.image.proofs.start.Tie as tie

@@ -3,8 +3,8 @@ use mathlib.Core.Path.{_≡_, refl, sym, ap, _∙_}
 use Rattle.csm.specs.Message.{read}
 use Rattle.reader.specs.declared.Message.the-variants as message
 use Rattle.reader.specs.Seen.{seen}
-use Rattle.outcome.specs.declared.Telling.the-variants.{Service}
-use Rattle.outcome.specs.Report.{turned, report, done-turned}
+use Rattle.outcome.specs.Report.{turned}
+use Rattle.outcome.proofs.Turns.{gives}
 use Rattle.receiving.specs.Texts.{esm-in}
 use Rattle.receiving.proofs.Reading.{reads-ksm, reads-rsm, reads-esm}
 use Rattle.receiving.proofs.Turning.{esm-unanswered}
@@ -30,29 +30,11 @@ esm-seen : (c : tie.After-message4)
     seen (read (a .text .now)) ≡ message.Esm (c .message4 .given .0 .0)
 esm-seen c = sym (c .before .before .read .ensures) ∙ c .message4 .given .1
 
-read-requires : tie.Need-read-requires
-read-requires c κs = search needs
-
-enum-known-message : tie.Need-enum-known-message
-enum-known-message c = search needs
-
-no-date-requires : tie.Need-no-date-requires
-no-date-requires c κs = search needs
-
-done-requires : tie.Need-done-requires
-done-requires c κs = search needs
-
-enum-known-message-2 : tie.Need-enum-known-message-2
-enum-known-message-2 c = search needs
-
 receive-ksm-requires : tie.Need-receive-ksm-requires
 receive-ksm-requires c κs =
     let m = c .before .before in
     let s = m .before .before .before .before .before .before in
     (s .pre, reads-ksm (s .args .text .now) (m .message2 .given .0 .0) (ksm-seen m) .good)
-
-enum-known-message-3 : tie.Need-enum-known-message-3
-enum-known-message-3 c = search needs
 
 receive-rsm-requires : tie.Need-receive-rsm-requires
 receive-rsm-requires c κs =
@@ -60,40 +42,20 @@ receive-rsm-requires c κs =
     let s = m .before .before .before .before .before .before in
     (s .pre, reads-rsm (s .args .text .now) (m .message3 .given .0 .0) (rsm-seen m) .sealed)
 
-enum-known-message-4 : tie.Need-enum-known-message-4
-enum-known-message-4 c = search needs
-
 receive-esm-requires : tie.Need-receive-esm-requires
 receive-esm-requires c κs =
     let m = c .before in
     let a = m .before .before .before .before .before .before .args in
     reads-esm (a .text .now) (m .message4 .given .0 .0) (esm-seen m) .fits
 
-enum-told : tie.Need-enum-told
-enum-told c = search needs
-
-error-requires : tie.Need-error-requires
-error-requires c κs = search needs
-
-enum-told-2 : tie.Need-enum-told-2
-enum-told-2 c = search needs
-
-refused-requires : tie.Need-refused-requires
-refused-requires c κs = search needs
-
 returns : tie.Need-returns
-unfolding turned report
 returns c =
-    let m = c .before .before .before in
+    let m = c .before .before in
     let a = m .before .before .before .before .before .before .args in
     let r = m .message .given .0 .0 in
     let seen = sym (m .before .before .read .ensures) ∙ m .message .given .1 in
     let t = is-rsi (a .own .now) (a .e) (a .text .now) r seen in
-    let d = ap (done-turned (a .e) 0 (Service (r .service))) (c .before .no-date .ensures) in
-    (c .done .ensures ∙ d ∙ ap turned t, unreplied _ _ (a .reply .now) refl t)
-
-same-length : tie.Need-same-length
-same-length c = search needs
+    (gives _ t refl (c .told-service .ensures), unreplied _ _ (a .reply .now) refl t)
 
 returns-2 : tie.Need-returns-2
 returns-2 c =
@@ -102,9 +64,6 @@ returns-2 c =
     let t = is-ksm (a .own .now) (a .e) (a .text .now) (m .message2 .given .0 .0) (ksm-seen m) in
     let r = c .before .before .receive-ksm .ensures in
     (r .0 ∙ ap turned t, r .1 ∙ replied-as _ _ (a .reply .now) t)
-
-same-length-2 : tie.Need-same-length-2
-same-length-2 c = search needs
 
 returns-3 : tie.Need-returns-3
 returns-3 c =
@@ -122,9 +81,6 @@ returns-4 c =
     let t = is-esm (a .own .now) (a .e) (a .text .now) r (esm-seen m) in
     (c .receive-esm .ensures ∙ ap turned t, unreplied _ _ (a .reply .now) (esm-unanswered (a .e) (esm-in r)) t)
 
-same-length-3 : tie.Need-same-length-3
-same-length-3 c = search needs
-
 returns-5 : tie.Need-returns-5
 returns-5 c =
     let o = c .before .before .before .before in
@@ -133,10 +89,9 @@ returns-5 c =
     let seen = sym (o .before .before .read .ensures) ∙ told .1 in
     let t = is-option (a .own .now) (a .e) (a .text .now) (told .0 .0) seen in
     let r = c .before .before .error .ensures in
-    (r .0 ∙ ap turned t, r .1 ∙ replied-as _ _ (a .reply .now) t)
+    (gives _ t refl (r .0), r .1 ∙ replied-as _ _ (a .reply .now) t)
 
 returns-6 : tie.Need-returns-6
-unfolding turned report
 returns-6 c =
     let n = c .before in
     let a = n .before .before .before .before .before .before .args in
@@ -148,26 +103,25 @@ pub by-class-spec : {M : Type 1} → statement M
 by-class-spec =
     tie.close
     (tie.spec
-    read-requires
-    enum-known-message
-    no-date-requires
-    done-requires
-    enum-known-message-2
+    (λ c κs. search needs)
+    (λ c. search needs)
+    (λ c κs. search needs)
+    (λ c. search needs)
     receive-ksm-requires
-    enum-known-message-3
+    (λ c. search needs)
     receive-rsm-requires
-    enum-known-message-4
+    (λ c. search needs)
     receive-esm-requires
-    enum-told
-    error-requires
-    enum-told-2
-    refused-requires
+    (λ c. search needs)
+    (λ c κs. search needs)
+    (λ c. search needs)
+    (λ c κs. search needs)
     returns
-    same-length
+    (λ c. search needs)
     returns-2
-    same-length-2
+    (λ c. search needs)
     returns-3
     returns-4
-    same-length-3
+    (λ c. search needs)
     returns-5
     returns-6)

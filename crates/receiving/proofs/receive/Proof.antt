@@ -3,7 +3,7 @@ use mathlib.Core.Path.{_≡_, refl, sym, ap, _∙_}
 use mathlib.Core.Bool.{true}
 use lib.ListN.{length}
 use borrow.Author.Tests.{not-true, not-false}
-use Rattle.outcome.specs.Report.{turned, report}
+use Rattle.outcome.specs.Report.{turned}
 use Rattle.outcome.specs.Acts.{sound}
 use Rattle.receiving.proofs.Classes.{unreplied, replied-as, unsound, no-room, in-room}
 use borrow.Author.Needs.{needs}
@@ -23,7 +23,6 @@ refused-requires : tie.Need-refused-requires
 refused-requires c κs = search needs
 
 returns : tie.Need-returns
-unfolding turned report
 returns c =
     let n = c .before in
     let a = n .before .before .before .before .before .args in
@@ -35,7 +34,6 @@ refused-requires-2 : tie.Need-refused-requires-2
 refused-requires-2 c κs = search needs
 
 returns-2 : tie.Need-returns-2
-unfolding turned report
 returns-2 c =
     let s = c .before .before in
     let a = s .before .before .before .before .before .args in

@@ -6,8 +6,8 @@ use Prim.Native.Nat.{ℕ}
 use lib.Dec.{eqb}
 use borrow.Author.Tests.{not-true, not-false}
 use Rattle.partner.specs.Entry.{waiting, keys-in}
-use Rattle.outcome.specs.declared.Telling.the-variants.{Confirmation}
-use Rattle.outcome.specs.Report.{turned, report, done-turned}
+use Rattle.outcome.specs.Report.{turned}
+use Rattle.outcome.proofs.Turns.{gives}
 use Rattle.receiving.specs.Texts.{rsm-in}
 use Rattle.receiving.specs.Stages.{bad-mac}
 use Rattle.receiving.proofs.Turning.{rsm-idle, rsm-bad, rsm-good}
@@ -29,32 +29,13 @@ mac c =
     let keys = c .before .data-keys .ensures in
     sym (c .bad-mac .ensures ∙ ap (λ (ks : List ℕ). bad-mac ks (a .text .now) (a .m .mac)) keys)
 
-is-waiting-requires : tie.Need-is-waiting-requires
-is-waiting-requires c κs = search needs
-
-refused-requires : tie.Need-refused-requires
-refused-requires c κs = search needs
-
 returns : tie.Need-returns
-unfolding turned report
 returns c =
     let n = c .before in
     let a = n .before .before .before .before .before .args in
     let idle = sym (n .before .is-waiting .ensures) ∙ not-true _ (n .if1 .taken) in
     let t = rsm-idle (a .own .now) (a .e) (a .text .now) (rsm-in (a .m)) idle in
     (c .refused .ensures ∙ ap turned t, unreplied _ _ (a .reply .now) refl t)
-
-data-keys-requires : tie.Need-data-keys-requires
-data-keys-requires c κs = search needs
-
-bad-mac-requires : tie.Need-bad-mac-requires
-bad-mac-requires c κs = search needs
-
-error-requires : tie.Need-error-requires
-error-requires c κs = search needs
-
-same-length : tie.Need-same-length
-same-length c = search needs
 
 returns-2 : tie.Need-returns-2
 returns-2 c =
@@ -64,42 +45,29 @@ returns-2 c =
     let bad = mac (n .before) ∙ n .if2 .taken in
     let t = rsm-bad (a .own .now) (a .e) (a .text .now) (rsm-in (a .m)) (waits w) bad in
     let r = c .before .before .error .ensures in
-    (r .0 ∙ ap turned t, r .1 ∙ replied-as _ _ (a .reply .now) t)
-
-settled-requires : tie.Need-settled-requires
-settled-requires c κs = search needs
-
-no-date-requires : tie.Need-no-date-requires
-no-date-requires c κs = search needs
-
-done-requires : tie.Need-done-requires
-done-requires c κs = search needs
+    (gives _ t refl (r .0), r .1 ∙ replied-as _ _ (a .reply .now) t)
 
 returns-3 : tie.Need-returns-3
-unfolding turned report
 returns-3 c =
-    let y = c .before .before .before in
+    let y = c .before .before in
     let w = y .before .before .before .before in
     let a = w .before .before .before .before .before .args in
     let good = mac (y .before) ∙ y .if2 .left in
     let t = rsm-good (a .own .now) (a .e) (a .text .now) (rsm-in (a .m)) (waits w) good in
-    let d = c .done .ensures
-    ∙ (λ i. done-turned (c .before .before .settled .ensures i) 0 Confirmation (c .before .no-date .ensures i)) in
-    (d ∙ ap turned t, unreplied _ _ (a .reply .now) refl t)
+    (gives _ t (c .before .settled .ensures) (c .told-confirmation .ensures), unreplied _ _ (a .reply .now) refl t)
 
 pub receive-rsm-spec : {M : Type 1} → statement M
 receive-rsm-spec =
     tie.close
     (tie.spec
-    is-waiting-requires
-    refused-requires
+    (λ c κs. search needs)
+    (λ c κs. search needs)
     returns
-    data-keys-requires
-    bad-mac-requires
-    error-requires
-    same-length
+    (λ c κs. search needs)
+    (λ c κs. search needs)
+    (λ c κs. search needs)
+    (λ c. search needs)
     returns-2
-    settled-requires
-    no-date-requires
-    done-requires
+    (λ c κs. search needs)
+    (λ c κs. search needs)
     returns-3)

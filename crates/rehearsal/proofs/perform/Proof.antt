@@ -59,7 +59,7 @@ use Rattle.rehearsal.proofs.script.own as own′
 use Rattle.rehearsal.proofs.script.partner as partner′
 use Rattle.rehearsal.proofs.script.text as text′
 use Rattle.rehearsal.proofs.script.part as part′
-use Rattle.rehearsal.proofs.spoken as spoken′
+use Rattle.rehearsal.proofs.made as made′
 use Rattle.rehearsal.proofs.script.after as after′
 use Rattle.rehearsal.proofs.perform as F
 use Rattle.rehearsal.proofs.perform.Code as code
@@ -108,8 +108,8 @@ module _ {M : Type 1} (𝓤 : URA M) (H : Heap 𝓤) (A : Atoms 𝓤) (mem : Mem
   abbrev Part : Contract 𝓤
   Part = tripleOf 𝓤 H A part′.signature (part′.spec 𝓤 H A mem run)
 
-  abbrev Spoken : Contract 𝓤
-  Spoken = tripleOf 𝓤 H A spoken′.signature (spoken′.spec 𝓤 H A mem run)
+  abbrev Made : Contract 𝓤
+  Made = tripleOf 𝓤 H A made′.signature (made′.spec 𝓤 H A mem run)
 
   abbrev After : Contract 𝓤
   After = tripleOf 𝓤 H A after′.signature (after′.spec 𝓤 H A mem run)
@@ -120,7 +120,7 @@ record Known {M : Type 1} (𝓤 : URA M) (H : Heap 𝓤) (A : Atoms 𝓤) (mem :
   pub partner : Triple 𝓤 (C partner′.Symbol.name) (Partner 𝓤 H A mem run)
   pub text : Triple 𝓤 (C text′.Symbol.name) (Texts 𝓤 H A mem run)
   pub part : Triple 𝓤 (C part′.Symbol.name) (Part 𝓤 H A mem run)
-  pub spoken : Triple 𝓤 (C spoken′.Symbol.name) (Spoken 𝓤 H A mem run)
+  pub made : Triple 𝓤 (C made′.Symbol.name) (Made 𝓤 H A mem run)
   pub after : Triple 𝓤 (C after′.Symbol.name) (After 𝓤 H A mem run)
 
 module _ {M : Type 1} (𝓤 : URA M) (H : Heap 𝓤) (A : Atoms 𝓤) (W : Given 𝓤 H A) (mem : Memory → SProp 𝓤) (run : Routine → Fun 𝓤) (κ₀ : Lft) (q₀ : Share) (s₀ : RefT (List Entry)) (c : Scene) where
@@ -149,11 +149,11 @@ module _ {M : Type 1} (𝓤 : URA M) (H : Heap 𝓤) (A : Atoms 𝓤) (W : Given
     asks-part : (ν₃ : ℕ) (δ₃ : GName) (t : List ℕ) (ic : Is Sc.the-row c (m ∷ [])) → ent 𝓤 (⋆ 𝓤 H A (‵ (flft (ν₃ ∷ []) fullShare) ∷ ‵ (shared 0 (ν₃ ∷ []) u8 (slice-at l₆ δ₃ t)) ∷ [])) (Part 𝓤 H A mem run .pre (to-part ν₃ δ₃ t))
     asks-part ν₃ δ₃ t ic = qed W (‵ (flft (ν₃ ∷ []) fullShare) ∷ ‵ (shared 0 (ν₃ ∷ []) u8 (slice-at l₆ δ₃ t)) ∷ []) ∵ nothing ! $ owned ! Sc.the-row (Is Sc.the-row) (LL.makes Sc.the-type Sc′.the-plain 𝓤 H A) c _ ic $ fjoin ! $ move ! (2 ∷ 0 ∷ []) $ fjoin ! $ nothing ! $ move ! (2 ∷ 0 ∷ []) $ join ! $ join ! $ frame ! $ done !
 
-    abbrev to-spoken : (ν₁ : ℕ) (ν₂ : ℕ) (ν₃ : ℕ) (ν₄ : ℕ) (δ₁ : GName) (δ₂ : GName) (δ₄ : GName) (o : List ℕ) (p : List ℕ) (s : RefT (List ℕ)) (d : ℕ) (u : Val) → Spoken 𝓤 H A mem run .Ghost
-    to-spoken ν₁ ν₂ ν₃ ν₄ δ₁ δ₂ δ₄ o p s d u = (((κ₀, ((ν₁ ∷ []), ((ν₂ ∷ []), ((ν₃ ∷ []), ((ν₄ ∷ []), tt))))), (q₀, (fullShare, (fullShare, (fullShare, (fullShare, tt))))), tt, (s₀, ((slice-at l₄ δ₁ o), ((slice-at l₅ δ₂ p), (s, ((slice-at l₇ δ₄ zeros), (d, tt)))))), ((value s₀) ∷ [], ((value (slice-at l₄ δ₁ o)) ∷ [], ((value (slice-at l₅ δ₂ p)) ∷ [], ((value s) ∷ [], ((value (slice-at l₇ δ₄ zeros)) ∷ [], (u ∷ [], tt))))))), tt)
+    abbrev to-made : (ν₁ : ℕ) (ν₂ : ℕ) (ν₃ : ℕ) (ν₄ : ℕ) (δ₁ : GName) (δ₂ : GName) (δ₄ : GName) (o : List ℕ) (p : List ℕ) (s : RefT (List ℕ)) (d : ℕ) (u : Val) → Made 𝓤 H A mem run .Ghost
+    to-made ν₁ ν₂ ν₃ ν₄ δ₁ δ₂ δ₄ o p s d u = (((κ₀, ((ν₁ ∷ []), ((ν₂ ∷ []), ((ν₃ ∷ []), ((ν₄ ∷ []), tt))))), (q₀, (fullShare, (fullShare, (fullShare, (fullShare, tt))))), tt, (s₀, ((slice-at l₄ δ₁ o), ((slice-at l₅ δ₂ p), (s, ((slice-at l₇ δ₄ zeros), (d, tt)))))), ((value s₀) ∷ [], ((value (slice-at l₄ δ₁ o)) ∷ [], ((value (slice-at l₅ δ₂ p)) ∷ [], ((value s) ∷ [], ((value (slice-at l₇ δ₄ zeros)) ∷ [], (u ∷ [], tt))))))), tt)
 
-    asks-spoken : (ν₁ : ℕ) (ν₂ : ℕ) (ν₃ : ℕ) (ν₄ : ℕ) (δ₁ : GName) (δ₂ : GName) (δ₄ : GName) (o : List ℕ) (p : List ℕ) (s : RefT (List ℕ)) (d : ℕ) (u : Val) (i : Is u8 d (u ∷ [])) → ent 𝓤 (⋆ 𝓤 H A (‵ (flft κ₀ q₀) ∷ ‵ (flft (ν₁ ∷ []) fullShare) ∷ ‵ (flft (ν₂ ∷ []) fullShare) ∷ ‵ (flft (ν₃ ∷ []) fullShare) ∷ ‵ (flft (ν₄ ∷ []) fullShare) ∷ ‵ (unique 0 κ₀ R s₀) ∷ ‵ (shared 0 (ν₁ ∷ []) u8 (slice-at l₄ δ₁ o)) ∷ ‵ (shared 0 (ν₂ ∷ []) u8 (slice-at l₅ δ₂ p)) ∷ ‵ (shared 0 (ν₃ ∷ []) u8 s) ∷ ‵ (unique 0 (ν₄ ∷ []) u8 (slice-at l₇ δ₄ zeros)) ∷ [])) (Spoken 𝓤 H A mem run .pre (to-spoken ν₁ ν₂ ν₃ ν₄ δ₁ δ₂ δ₄ o p s d u))
-    asks-spoken ν₁ ν₂ ν₃ ν₄ δ₁ δ₂ δ₄ o p s d u i = qed W (‵ (flft κ₀ q₀) ∷ ‵ (flft (ν₁ ∷ []) fullShare) ∷ ‵ (flft (ν₂ ∷ []) fullShare) ∷ ‵ (flft (ν₃ ∷ []) fullShare) ∷ ‵ (flft (ν₄ ∷ []) fullShare) ∷ ‵ (unique 0 κ₀ R s₀) ∷ ‵ (shared 0 (ν₁ ∷ []) u8 (slice-at l₄ δ₁ o)) ∷ ‵ (shared 0 (ν₂ ∷ []) u8 (slice-at l₅ δ₂ p)) ∷ ‵ (shared 0 (ν₃ ∷ []) u8 s) ∷ ‵ (unique 0 (ν₄ ∷ []) u8 (slice-at l₇ δ₄ zeros)) ∷ []) ∵ nothing ! $ owned ! u8 (Is u8) (uint-makes 𝓤 H A W w8) d _ i $ fjoin ! $ move ! (10 ∷ 0 ∷ []) $ fjoin ! $ move ! (9 ∷ 0 ∷ []) $ fjoin ! $ move ! (8 ∷ 0 ∷ []) $ fjoin ! $ move ! (7 ∷ 0 ∷ []) $ fjoin ! $ move ! (6 ∷ 0 ∷ []) $ fjoin ! $ nothing ! $ move ! (6 ∷ 0 ∷ []) $ join ! $ move ! (5 ∷ 0 ∷ []) $ join ! $ move ! (4 ∷ 0 ∷ []) $ join ! $ move ! (3 ∷ 0 ∷ []) $ join ! $ move ! (2 ∷ 0 ∷ []) $ join ! $ join ! $ frame ! $ done !
+    asks-made : (ν₁ : ℕ) (ν₂ : ℕ) (ν₃ : ℕ) (ν₄ : ℕ) (δ₁ : GName) (δ₂ : GName) (δ₄ : GName) (o : List ℕ) (p : List ℕ) (s : RefT (List ℕ)) (d : ℕ) (u : Val) (i : Is u8 d (u ∷ [])) → ent 𝓤 (⋆ 𝓤 H A (‵ (flft κ₀ q₀) ∷ ‵ (flft (ν₁ ∷ []) fullShare) ∷ ‵ (flft (ν₂ ∷ []) fullShare) ∷ ‵ (flft (ν₃ ∷ []) fullShare) ∷ ‵ (flft (ν₄ ∷ []) fullShare) ∷ ‵ (unique 0 κ₀ R s₀) ∷ ‵ (shared 0 (ν₁ ∷ []) u8 (slice-at l₄ δ₁ o)) ∷ ‵ (shared 0 (ν₂ ∷ []) u8 (slice-at l₅ δ₂ p)) ∷ ‵ (shared 0 (ν₃ ∷ []) u8 s) ∷ ‵ (unique 0 (ν₄ ∷ []) u8 (slice-at l₇ δ₄ zeros)) ∷ [])) (Made 𝓤 H A mem run .pre (to-made ν₁ ν₂ ν₃ ν₄ δ₁ δ₂ δ₄ o p s d u))
+    asks-made ν₁ ν₂ ν₃ ν₄ δ₁ δ₂ δ₄ o p s d u i = qed W (‵ (flft κ₀ q₀) ∷ ‵ (flft (ν₁ ∷ []) fullShare) ∷ ‵ (flft (ν₂ ∷ []) fullShare) ∷ ‵ (flft (ν₃ ∷ []) fullShare) ∷ ‵ (flft (ν₄ ∷ []) fullShare) ∷ ‵ (unique 0 κ₀ R s₀) ∷ ‵ (shared 0 (ν₁ ∷ []) u8 (slice-at l₄ δ₁ o)) ∷ ‵ (shared 0 (ν₂ ∷ []) u8 (slice-at l₅ δ₂ p)) ∷ ‵ (shared 0 (ν₃ ∷ []) u8 s) ∷ ‵ (unique 0 (ν₄ ∷ []) u8 (slice-at l₇ δ₄ zeros)) ∷ []) ∵ nothing ! $ owned ! u8 (Is u8) (uint-makes 𝓤 H A W w8) d _ i $ fjoin ! $ move ! (10 ∷ 0 ∷ []) $ fjoin ! $ move ! (9 ∷ 0 ∷ []) $ fjoin ! $ move ! (8 ∷ 0 ∷ []) $ fjoin ! $ move ! (7 ∷ 0 ∷ []) $ fjoin ! $ move ! (6 ∷ 0 ∷ []) $ fjoin ! $ nothing ! $ move ! (6 ∷ 0 ∷ []) $ join ! $ move ! (5 ∷ 0 ∷ []) $ join ! $ move ! (4 ∷ 0 ∷ []) $ join ! $ move ! (3 ∷ 0 ∷ []) $ join ! $ move ! (2 ∷ 0 ∷ []) $ join ! $ join ! $ frame ! $ done !
 
     abbrev to-after : (ν₅ : ℕ) (δ₅ : GName) (z₄ : List ℕ) (d : Report) (u : Val) → After 𝓤 H A mem run .Ghost
     to-after ν₅ δ₅ z₄ d u = ((((ν₅ ∷ []), tt), (fullShare, tt), tt, (c, ((slice-at l₇ δ₅ z₄), (d, tt))), (m ∷ [], ((value (slice-at l₇ δ₅ z₄)) ∷ [], (u ∷ [], tt)))), tt)
@@ -182,9 +182,9 @@ module _ {M : Type 1} (𝓤 : URA M) (H : Heap 𝓤) (A : Atoms 𝓤) (W : Given
       -- the move is made, and what was lent is back
       speaks : (k : ℕ) (u-k : Val) (i-k : Is u8 k (u-k ∷ [])) (o : List ℕ) (u-o : Val) (i-o : Is (Array u8 5) o (u-o ∷ [])) (p : List ℕ) (u-p : Val) (i-p : Is (Array u8 5) p (u-p ∷ [])) (t : List ℕ) (u-t : Val) (i-t : Is (Array u8 256) t (u-t ∷ [])) (ν₁ ν₂ ν₃ ν₄ : ℕ) (δ₁ δ₂ δ₄ : GName) (s : RefT (List ℕ)) → Sq W (‵ (flft κ₀ q₀) ∷ ‵ (unique 0 κ₀ R s₀) ∷ ‵ (flft (ν₁ ∷ []) fullShare) ∷ ‵ (shared 0 (ν₁ ∷ []) u8 (slice-at l₄ δ₁ o)) ∷ ‵ (flent (ν₁ ∷ []) (Apart u8 (length o) o l₄)) ∷ ‵ (flft (ν₂ ∷ []) fullShare) ∷ ‵ (shared 0 (ν₂ ∷ []) u8 (slice-at l₅ δ₂ p)) ∷ ‵ (flent (ν₂ ∷ []) (Apart u8 (length p) p l₅)) ∷ ‵ (flft (ν₃ ∷ []) fullShare) ∷ ‵ (shared 0 (ν₃ ∷ []) u8 s) ∷ ‵ (flent (ν₃ ∷ []) (Apart u8 (length t) t l₆)) ∷ ‵ (flft (ν₄ ∷ []) fullShare) ∷ ‵ (unique 0 (ν₄ ∷ []) u8 (slice-at l₇ δ₄ zeros)) ∷ ‵ (flent (ν₄ ∷ []) (Held u8 (length zeros) l₇ 0 δ₄)) ∷ ‵ (froom (sliceTy (tyRef erased imm (tyInt w8))) l₂₃ 0) ∷ ‵ (fdies (sliceTy (tyRef erased imm (tyInt w8))) l₂₃) ∷ ‵ (froom (tyRef erased imm (tyArray (tyInt w8) 256)) l₂₂ 0) ∷ ‵ (fdies (tyRef erased imm (tyArray (tyInt w8) 256)) l₂₂) ∷ ‵ (fat fullShare (sliceTy (tyRef erased mut (tyInt w8))) l₂₁ 0 (sliceVal (l₇, 0) (length zeros))) ∷ ‵ (fdies (sliceTy (tyRef erased mut (tyInt w8))) l₂₁) ∷ ‵ (fat fullShare (tyRef erased mut (tyArray (tyInt w8) 256)) l₂₀ 0 (vptr l₇ 0)) ∷ ‵ (fdies (tyRef erased mut (tyArray (tyInt w8) 256)) l₂₀) ∷ ‵ (fat fullShare (sliceTy (tyRef erased imm (tyInt w8))) l₁₉ 0 (sliceVal (l₆, 0) (length t))) ∷ ‵ (fdies (sliceTy (tyRef erased imm (tyInt w8))) l₁₉) ∷ ‵ (fat fullShare (tyRef erased imm (tyArray (tyInt w8) 256)) l₁₈ 0 (vptr l₆ 0)) ∷ ‵ (fdies (tyRef erased imm (tyArray (tyInt w8) 256)) l₁₈) ∷ ‵ (fat fullShare (sliceTy (tyRef erased imm (tyInt w8))) l₁₇ 0 (value s)) ∷ ‵ (fdies (sliceTy (tyRef erased imm (tyInt w8))) l₁₇) ∷ ‵ (fat fullShare (sliceTy (tyRef erased imm (tyInt w8))) l₁₆ 0 (sliceVal (l₅, 0) (length p))) ∷ ‵ (fdies (sliceTy (tyRef erased imm (tyInt w8))) l₁₆) ∷ ‵ (fat fullShare (tyRef erased imm (tyArray (tyInt w8) 5)) l₁₅ 0 (vptr l₅ 0)) ∷ ‵ (fdies (tyRef erased imm (tyArray (tyInt w8) 5)) l₁₅) ∷ ‵ (fat fullShare (sliceTy (tyRef erased imm (tyInt w8))) l₁₄ 0 (sliceVal (l₄, 0) (length o))) ∷ ‵ (fdies (sliceTy (tyRef erased imm (tyInt w8))) l₁₄) ∷ ‵ (fat fullShare (tyRef erased imm (tyArray (tyInt w8) 5)) l₁₃ 0 (vptr l₄ 0)) ∷ ‵ (fdies (tyRef erased imm (tyArray (tyInt w8) 5)) l₁₃) ∷ ‵ (fat fullShare (sliceTy (tyRef erased mut elemTy)) l₁₂ 0 (value s₀)) ∷ ‵ (fdies (sliceTy (tyRef erased mut elemTy)) l₁₂) ∷ ‵ (fat fullShare (tyRef erased mut elemTy) l₁₁ 0 (vptr (s₀ .ptr .0) (s₀ .ptr .1))) ∷ ‵ (fdies (tyRef erased mut elemTy) l₁₁) ∷ ‵ (froom (tyArray (tyInt w8) 256) l₁₀ 0) ∷ ‵ (fdies (tyArray (tyInt w8) 256) l₁₀) ∷ ‵ (froom (tyArray (tyInt w8) 5) l₉ 0) ∷ ‵ (fdies (tyArray (tyInt w8) 5) l₉) ∷ ‵ (froom Rep′.mir l₈ 0) ∷ ‵ (fdies Rep′.mir l₈) ∷ ‵ (fdies (tyArray (tyInt w8) 256) l₇) ∷ ‵ (fdies (tyArray (tyInt w8) 256) l₆) ∷ ‵ (fdies (tyArray (tyInt w8) 5) l₅) ∷ ‵ (fdies (tyArray (tyInt w8) 5) l₄) ∷ ‵ (fat fullShare (tyInt w8) l₃ 0 u-k) ∷ ‵ (fdies (tyInt w8) l₃) ∷ ‵ (fat fullShare Sc′.mir l₂ 0 m) ∷ ‵ (fdies Sc′.mir l₂) ∷ ‵ (fat fullShare (sliceTy (tyRef (named 0) mut elemTy)) l₁ 0 (value s₀)) ∷ ‵ (fdies (sliceTy (tyRef (named 0) mut elemTy)) l₁) ∷ ‵ (froom Sc′.mir l₀ 0) ∷ ‵ (fdies Sc′.mir l₀) ∷ []) (runs C Λ En mirs.t-20 (atRet En Post′))
       speaks k u-k i-k o u-o i-o p u-p i-p t u-t i-t ν₁ ν₂ ν₃ ν₄ δ₁ δ₂ δ₄ s =
-          move ! (0 ∷ 2 ∷ 5 ∷ 8 ∷ 11 ∷ 1 ∷ 3 ∷ 6 ∷ 9 ∷ 12 ∷ []) $ group ! 10 $ use1 W (raw (Spoken 𝓤 H A mem run .pre (to-spoken l₄ l₅ l₆ l₇ ν₁ ν₂ ν₃ ν₄ δ₁ δ₂ δ₄ o p s k u-k))) (asks-spoken l₄ l₅ l₆ l₇ ν₁ ν₂ ν₃ ν₄ δ₁ δ₂ δ₄ o p s k u-k i-k) $
-          calls-at ! fm (Spoken 𝓤 H A mem run) (known .spoken) (to-spoken l₄ l₅ l₆ l₇ ν₁ ν₂ ν₃ ν₄ δ₁ δ₂ δ₄ o p s k u-k) (and-then ! (load ! (from ! (stop !)) (look ! 27 refl)) (and-then ! (load ! (from ! (stop !)) (look ! 23 refl)) (and-then ! (load ! (from ! (stop !)) (look ! 19 refl)) (and-then ! (load ! (from ! (stop !)) (look ! 17 refl)) (and-then ! (load ! (from ! (stop !)) (look ! 9 refl)) (and-then ! (load ! (from ! (stop !)) (look ! 41 refl)) (no-more !))))))) (λ u-r.
-          hears-last ! tt Rep.the-row (‵ (flft κ₀ q₀) ⊛ (‵ (flft (ν₁ ∷ []) fullShare) ⊛ (‵ (flft (ν₂ ∷ []) fullShare) ⊛ (‵ (flft (ν₃ ∷ []) fullShare) ⊛ (‵ (flft (ν₄ ∷ []) fullShare) ⊛ ‵ ftrue))))) {X = (Lasts spoken′.ended (κ₀, ((ν₁ ∷ []), ((ν₂ ∷ []), ((ν₃ ∷ []), ((ν₄ ∷ []), tt))))) (s₀, ((slice-at l₄ δ₁ o), ((slice-at l₅ δ₂ p), (s, ((slice-at l₇ δ₄ zeros), (k, tt)))))))} (lasts spoken′.ended (κ₀, ((ν₁ ∷ []), ((ν₂ ∷ []), ((ν₃ ∷ []), ((ν₄ ∷ []), tt))))) (s₀, ((slice-at l₄ δ₁ o), ((slice-at l₅ δ₂ p), (s, ((slice-at l₇ δ₄ zeros), (k, tt))))))) (λ r ws. spoken′.clauses 𝓤 H A mem run (κ₀, ((ν₁ ∷ []), ((ν₂ ∷ []), ((ν₃ ∷ []), ((ν₄ ∷ []), tt))))) (s₀, ((slice-at l₄ δ₁ o), ((slice-at l₅ δ₂ p), (s, ((slice-at l₇ δ₄ zeros), (k, tt)))))) .ensures tt r (atExit spoken′.ended (κ₀, ((ν₁ ∷ []), ((ν₂ ∷ []), ((ν₃ ∷ []), ((ν₄ ∷ []), tt))))) (s₀, ((slice-at l₄ δ₁ o), ((slice-at l₅ δ₂ p), (s, ((slice-at l₇ δ₄ zeros), (k, tt)))))) ws)) (λ _ _. Unit {0}) (λ _ _. factI 𝓤 (Unit {0}) _ tt) u-r (id⊢ 𝓤 _) (λ r ws-r _ i-r.
+          move ! (0 ∷ 2 ∷ 5 ∷ 8 ∷ 11 ∷ 1 ∷ 3 ∷ 6 ∷ 9 ∷ 12 ∷ []) $ group ! 10 $ use1 W (raw (Made 𝓤 H A mem run .pre (to-made l₄ l₅ l₆ l₇ ν₁ ν₂ ν₃ ν₄ δ₁ δ₂ δ₄ o p s k u-k))) (asks-made l₄ l₅ l₆ l₇ ν₁ ν₂ ν₃ ν₄ δ₁ δ₂ δ₄ o p s k u-k i-k) $
+          calls-at ! fm (Made 𝓤 H A mem run) (known .made) (to-made l₄ l₅ l₆ l₇ ν₁ ν₂ ν₃ ν₄ δ₁ δ₂ δ₄ o p s k u-k) (and-then ! (load ! (from ! (stop !)) (look ! 27 refl)) (and-then ! (load ! (from ! (stop !)) (look ! 23 refl)) (and-then ! (load ! (from ! (stop !)) (look ! 19 refl)) (and-then ! (load ! (from ! (stop !)) (look ! 17 refl)) (and-then ! (load ! (from ! (stop !)) (look ! 9 refl)) (and-then ! (load ! (from ! (stop !)) (look ! 41 refl)) (no-more !))))))) (λ u-r.
+          hears-last ! tt Rep.the-row (‵ (flft κ₀ q₀) ⊛ (‵ (flft (ν₁ ∷ []) fullShare) ⊛ (‵ (flft (ν₂ ∷ []) fullShare) ⊛ (‵ (flft (ν₃ ∷ []) fullShare) ⊛ (‵ (flft (ν₄ ∷ []) fullShare) ⊛ ‵ ftrue))))) {X = (Lasts made′.ended (κ₀, ((ν₁ ∷ []), ((ν₂ ∷ []), ((ν₃ ∷ []), ((ν₄ ∷ []), tt))))) (s₀, ((slice-at l₄ δ₁ o), ((slice-at l₅ δ₂ p), (s, ((slice-at l₇ δ₄ zeros), (k, tt)))))))} (lasts made′.ended (κ₀, ((ν₁ ∷ []), ((ν₂ ∷ []), ((ν₃ ∷ []), ((ν₄ ∷ []), tt))))) (s₀, ((slice-at l₄ δ₁ o), ((slice-at l₅ δ₂ p), (s, ((slice-at l₇ δ₄ zeros), (k, tt))))))) (λ r ws. made′.clauses 𝓤 H A mem run (κ₀, ((ν₁ ∷ []), ((ν₂ ∷ []), ((ν₃ ∷ []), ((ν₄ ∷ []), tt))))) (s₀, ((slice-at l₄ δ₁ o), ((slice-at l₅ δ₂ p), (s, ((slice-at l₇ δ₄ zeros), (k, tt)))))) .ensures tt r (atExit made′.ended (κ₀, ((ν₁ ∷ []), ((ν₂ ∷ []), ((ν₃ ∷ []), ((ν₄ ∷ []), tt))))) (s₀, ((slice-at l₄ δ₁ o), ((slice-at l₅ δ₂ p), (s, ((slice-at l₇ δ₄ zeros), (k, tt)))))) ws)) (λ _ _. Unit {0}) (λ _ _. factI 𝓤 (Unit {0}) _ tt) u-r (id⊢ 𝓤 _) (λ r ws-r _ i-r.
           split ! $ move ! (1 ∷ []) $ split ! $ move ! (1 ∷ []) $ split ! $ move ! (1 ∷ []) $ split ! $ move ! (1 ∷ []) $ split ! $ move ! (1 ∷ []) $ drop ! $ land ! (from ! (stop !)) (init ! 40 refl (LL.lawful Rep.the-type Rep′.the-laws 𝓤 H A W .typed r _ i-r .0)) $ move ! (5 ∷ []) $ fsplit ! $
           fsplit ! $ move ! (1 ∷ []) $ feqL ! (λ l-r0. move ! (1 ∷ []) $ fsplit ! $ drop ! $ fsplit ! $ drop ! $ fsplit ! $ drop ! $ fsplit ! $ fsplit ! $ move ! (1 ∷ []) $ feqL ! (λ l-r4. move ! (1 ∷ []) $ fsplit ! $ drop ! $ drop ! $ move ! (5 ∷ 7 ∷ []) $
           array-back ! tt u8 5 o l₄ (i-o .1 .0 .1) ν₁ $ clears ! u8 5 o l₄ $ move ! (5 ∷ 7 ∷ []) $ array-back ! tt u8 5 p l₅ (i-p .1 .0 .1) ν₂ $ clears ! u8 5 p l₅ $ move ! (5 ∷ 7 ∷ []) $ array-back ! tt u8 256 t l₆ (i-t .1 .0 .1) ν₃ $ clears ! u8 256 t l₆ $ move ! (5 ∷ 7 ∷ 3 ∷ []) $
@@ -265,6 +265,6 @@ perform-spec 𝓤 H 𝓜 𝓖 𝓡 =
       partner = cited 𝓤 H (Partner 𝓤 H (𝓖 .A) (𝓜 .mem) (𝓡 .run)) 𝓜 𝓡 code.env partner′.Symbol.name partner′.Symbol.routine code.calls-rehearsal·script·partner (partner′.Met.met 𝓤 H 𝓜 𝓖 𝓡);
       text = cited 𝓤 H (Texts 𝓤 H (𝓖 .A) (𝓜 .mem) (𝓡 .run)) 𝓜 𝓡 code.env text′.Symbol.name text′.Symbol.routine code.calls-rehearsal·script·text (text′.Met.met 𝓤 H 𝓜 𝓖 𝓡);
       part = cited 𝓤 H (Part 𝓤 H (𝓖 .A) (𝓜 .mem) (𝓡 .run)) 𝓜 𝓡 code.env part′.Symbol.name part′.Symbol.routine code.calls-rehearsal·script·part (part′.Met.met 𝓤 H 𝓜 𝓖 𝓡);
-      spoken = cited 𝓤 H (Spoken 𝓤 H (𝓖 .A) (𝓜 .mem) (𝓡 .run)) 𝓜 𝓡 code.env spoken′.Symbol.name spoken′.Symbol.routine code.calls-rehearsal·spoken (spoken′.Met.met 𝓤 H 𝓜 𝓖 𝓡);
+      made = cited 𝓤 H (Made 𝓤 H (𝓖 .A) (𝓜 .mem) (𝓡 .run)) 𝓜 𝓡 code.env made′.Symbol.name made′.Symbol.routine code.calls-rehearsal·made (made′.Met.met 𝓤 H 𝓜 𝓖 𝓡);
       after = cited 𝓤 H (After 𝓤 H (𝓖 .A) (𝓜 .mem) (𝓡 .run)) 𝓜 𝓡 code.env after′.Symbol.name after′.Symbol.routine code.calls-rehearsal·script·after (after′.Met.met 𝓤 H 𝓜 𝓖 𝓡);
     }))

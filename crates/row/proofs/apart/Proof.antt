@@ -51,7 +51,7 @@ use lib.Seq.{drop-cons}
 use Rattle.octets.specs.Text.{Text, same}
 use Rattle.partner.specs.declared.Entry.{Entry}
 use Rattle.partner.specs.Entry.{empty}
-use Rattle.image.specs.Table.{is-empty, identities, differs}
+use Rattle.partner.specs.Table.{is-empty, identities, differs}
 use Rattle.sight.specs.Sight.{differ}
 use Rattle.partner.proofs.Entry as T
 use Rattle.partner.proofs.Entry.Laws as T′

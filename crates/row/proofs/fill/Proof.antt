@@ -61,10 +61,10 @@ use Rattle.row.proofs.stored.filled as filled′
 use Rattle.row.proofs.stored.filled.Symbol as filled-def
 use Rattle.row.proofs.stored.filled.Symbol.{name as #row·filled}
 use Rattle.row.proofs.stored.filled.Met as filled-thm
-use Rattle.row.proofs.stored.slot as slot′
-use Rattle.row.proofs.stored.slot.Symbol as slot-def
-use Rattle.row.proofs.stored.slot.Symbol.{name as #row·slot}
-use Rattle.row.proofs.stored.slot.Met as slot-thm
+use Rattle.image.proofs.slot as slot′
+use Rattle.image.proofs.slot.Symbol as slot-def
+use Rattle.image.proofs.slot.Symbol.{name as #image·slot}
+use Rattle.image.proofs.slot.Met as slot-thm
 use Rattle.row.proofs.fill.Key.{name as #row·fill}
 use Rattle.row.proofs.fill as F
 use Rattle.row.proofs.fill.Statement as stated
@@ -73,7 +73,7 @@ use Rattle.row.proofs.fill.Code.Mir as mirs
 
 -- the last statements of a turn
 abbrev tested : Body
-tested = seq (call #row·slot (copy (place 2 []) ∷ copy (place 5 []) ∷ []) (place 8 []))
+tested = seq (call #image·slot (copy (place 2 []) ∷ copy (place 5 []) ∷ []) (place 8 []))
     (seq (assign (place 9 []) (op2 (mul unsigned) (copy (place 5 [])) (int w64 184)))
     (seq (assign (place 10 []) (op2 offset (copy (place 1 (field 0 ∷ []))) (copy (place 9 []))))
     (seq (assign (place 10 (deref T′.mir ∷ [])) (rvOpd (copy (place 8 []))))
@@ -110,7 +110,7 @@ module _ {M : Type 1} (𝓤 : URA M) (H : Heap 𝓤) (A : Atoms 𝓤) (mem : Mem
 
 record Known {M : Type 1} (𝓤 : URA M) (H : Heap 𝓤) (A : Atoms 𝓤) (mem : Memory → SProp 𝓤) (run : Routine → Fun 𝓤) (C : Calls 𝓤 H) : Type 2 where
   pub filled : Triple 𝓤 (C #row·filled) (Filled 𝓤 H A mem run)
-  pub slot : Triple 𝓤 (C #row·slot) (Slot 𝓤 H A mem run)
+  pub slot : Triple 𝓤 (C #image·slot) (Slot 𝓤 H A mem run)
 
 module _ {M : Type 1} (𝓤 : URA M) (H : Heap 𝓤) (A : Atoms 𝓤) (W : Given 𝓤 H A) (mem : Memory → SProp 𝓤) (run : Routine → Fun 𝓤) (κ κ₁ : Lft) (q q₁ : Share) (b o : ℕ) (γ : GName) (ys : List Entry) (image : RefT (List ℕ)) (a : ℕ) where
   abbrev n : ℕ
@@ -275,5 +275,5 @@ fill-spec 𝓤 H 𝓜 𝓖 𝓡 =
     (tables 𝓤 H 𝓜 𝓡 code.env .C) (tables 𝓤 H 𝓜 𝓡 code.env .Λ) #row·fill code.function (code.unfolded 𝓤 H 𝓜 𝓡)
     (fill-meets 𝓤 H (𝓖 .A) (givenOf 𝓤 H 𝓜 𝓖) (𝓜 .mem) (𝓡 .run) (tablesOf 𝓤 H 𝓜 (tables 𝓤 H 𝓜 𝓡 code.env)) (record {
       filled = cited 𝓤 H (Filled 𝓤 H (𝓖 .A) (𝓜 .mem) (𝓡 .run)) 𝓜 𝓡 code.env #row·filled filled-def.routine code.calls-row·stored·filled (filled-thm.met 𝓤 H 𝓜 𝓖 𝓡);
-      slot = cited 𝓤 H (Slot 𝓤 H (𝓖 .A) (𝓜 .mem) (𝓡 .run)) 𝓜 𝓡 code.env #row·slot slot-def.routine code.calls-row·stored·slot (slot-thm.met 𝓤 H 𝓜 𝓖 𝓡);
+      slot = cited 𝓤 H (Slot 𝓤 H (𝓖 .A) (𝓜 .mem) (𝓡 .run)) 𝓜 𝓡 code.env #image·slot slot-def.routine code.calls-image·slot (slot-thm.met 𝓤 H 𝓜 𝓖 𝓡);
     }))

@@ -55,18 +55,18 @@ use Rattle.sight.proofs.place as place′
 use Rattle.sight.proofs.place.Symbol as place-def
 use Rattle.sight.proofs.place.Symbol.{name as #sight·place}
 use Rattle.sight.proofs.place.Met as place-thm
-use Rattle.row.proofs.acts.entry as entry′
-use Rattle.row.proofs.acts.entry.Symbol as entry-def
-use Rattle.row.proofs.acts.entry.Symbol.{name as #row·entry}
-use Rattle.row.proofs.acts.entry.Met as entry-thm
+use Rattle.row.proofs.parts.entry as entry′
+use Rattle.row.proofs.parts.entry.Symbol as entry-def
+use Rattle.row.proofs.parts.entry.Symbol.{name as #row·entry}
+use Rattle.row.proofs.parts.entry.Met as entry-thm
 use Rattle.row.proofs.replace as replace′
 use Rattle.row.proofs.replace.Symbol as replace-def
 use Rattle.row.proofs.replace.Symbol.{name as #row·replace}
 use Rattle.row.proofs.replace.Met as replace-thm
-use Rattle.row.proofs.acts.told as told′
-use Rattle.row.proofs.acts.told.Symbol as told-def
-use Rattle.row.proofs.acts.told.Symbol.{name as #row·told}
-use Rattle.row.proofs.acts.told.Met as told-thm
+use Rattle.row.proofs.parts.told as told′
+use Rattle.row.proofs.parts.told.Symbol as told-def
+use Rattle.row.proofs.parts.told.Symbol.{name as #row·told}
+use Rattle.row.proofs.parts.told.Met as told-thm
 use Rattle.row.proofs.settle.Key.{name as #row·settle}
 use Rattle.row.proofs.settle as F
 use Rattle.row.proofs.settle.Statement as stated
@@ -234,7 +234,7 @@ settle-spec 𝓤 H 𝓜 𝓖 𝓡 =
     (tables 𝓤 H 𝓜 𝓡 code.env .C) (tables 𝓤 H 𝓜 𝓡 code.env .Λ) #row·settle code.function (code.unfolded 𝓤 H 𝓜 𝓡)
     (settle-meets 𝓤 H (𝓖 .A) (givenOf 𝓤 H 𝓜 𝓖) (𝓜 .mem) (𝓡 .run) (tablesOf 𝓤 H 𝓜 (tables 𝓤 H 𝓜 𝓡 code.env)) (record {
       place = cited 𝓤 H (Place 𝓤 H (𝓖 .A) (𝓜 .mem) (𝓡 .run)) 𝓜 𝓡 code.env #sight·place place-def.routine code.calls-sight·place (place-thm.met 𝓤 H 𝓜 𝓖 𝓡);
-      entry = cited 𝓤 H (EntryOf 𝓤 H (𝓖 .A) (𝓜 .mem) (𝓡 .run)) 𝓜 𝓡 code.env #row·entry entry-def.routine code.calls-row·acts·entry (entry-thm.met 𝓤 H 𝓜 𝓖 𝓡);
+      entry = cited 𝓤 H (EntryOf 𝓤 H (𝓖 .A) (𝓜 .mem) (𝓡 .run)) 𝓜 𝓡 code.env #row·entry entry-def.routine code.calls-row·parts·entry (entry-thm.met 𝓤 H 𝓜 𝓖 𝓡);
       replace = cited 𝓤 H (Replace 𝓤 H (𝓖 .A) (𝓜 .mem) (𝓡 .run)) 𝓜 𝓡 code.env #row·replace replace-def.routine code.calls-row·replace (replace-thm.met 𝓤 H 𝓜 𝓖 𝓡);
-      told = cited 𝓤 H (Told 𝓤 H (𝓖 .A) (𝓜 .mem) (𝓡 .run)) 𝓜 𝓡 code.env #row·told told-def.routine code.calls-row·acts·told (told-thm.met 𝓤 H 𝓜 𝓖 𝓡);
+      told = cited 𝓤 H (Told 𝓤 H (𝓖 .A) (𝓜 .mem) (𝓡 .run)) 𝓜 𝓡 code.env #row·told told-def.routine code.calls-row·parts·told (told-thm.met 𝓤 H 𝓜 𝓖 𝓡);
     }))

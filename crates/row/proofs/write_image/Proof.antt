@@ -53,7 +53,7 @@ use Rattle.outcome.specs.Report.{report, replied}
 use Rattle.row.specs.Stored.{size, write-answer, laid, fronted, write-report}
 use Rattle.sight.specs.Table.{row-legal}
 use Rattle.row.specs.Calls.{written}
-use Rattle.row.proofs.Walk.{value, shared, unique, hears, hears-last, both, one-fact, says-all}
+use Rattle.row.proofs.Walk.{value, shared, unique, hears, hears-last, one-fact, says-all}
 use Rattle.row.proofs.Writing.{written-is}
 use Rattle.outcome.specs.declared.Report.{Report}
 use Rattle.partner.specs.declared.Entry.{Entry}
@@ -140,7 +140,7 @@ module _ {M : Type 1} (𝓤 : URA M) (H : Heap 𝓤) (A : Atoms 𝓤) (W : Given
       → ent 𝓤 (⋆ 𝓤 H A (‵ (flft κ₀ q₀) ∷ ‵ (flft κ₁ q₁) ∷ ‵ (flft κ₂ q₂) ∷ ‵ (shared 0 κ₀ R s₀) ∷ ‵ (shared 1 κ₁ u8 s₁) ∷ ‵ (finally u8 (s₂ .name) z₂) ∷ [])) (Post′ u)
   exits r u is z₂ l₂ f =
       qed W (‵ (flft κ₀ q₀) ∷ ‵ (flft κ₁ q₁) ∷ ‵ (flft κ₂ q₂) ∷ ‵ (shared 0 κ₀ R s₀) ∷ ‵ (shared 1 κ₁ u8 s₁) ∷ ‵ (finally u8 (s₂ .name) z₂) ∷ []) ∵
-      suffices ! _ (ends-at 𝓤 H A F.ended stayed (F.clauses 𝓤 H A mem run) W (((κ₀, (κ₁, (κ₂, tt))), (q₀, (q₁, (q₂, tt))), tt, x, at), tt) u r (tt, (tt, (z₂, tt))) (tt, (tt, (l₂, tt)))) $ says-all ! (both 𝓤 (factI 𝓤 _ (emp 𝓤) (f .0)) (factI 𝓤 _ (emp 𝓤) (f .1))) $
+      suffices ! _ (ends-at 𝓤 H A F.ended stayed (F.clauses 𝓤 H A mem run) W (((κ₀, (κ₁, (κ₂, tt))), (q₀, (q₁, (q₂, tt))), tt, x, at), tt) u r (tt, (tt, (z₂, tt))) (tt, (tt, (l₂, tt)))) $ says-all ! (factI 𝓤 _ (emp 𝓤) (record { given = f .0; out = f .1 })) $
       nothing ! $ move ! (3 ∷ 0 ∷ []) $ join ! $ move ! (2 ∷ 0 ∷ []) $ join ! $ move ! (1 ∷ 0 ∷ []) $ join ! $ frame ! $ nothing ! $ move ! (3 ∷ 0 ∷ []) $ fjoin ! $ move ! (2 ∷ 0 ∷ []) $ fjoin ! $ move ! (1 ∷ 0 ∷ []) $ fjoin ! $ frame ! $ owned ! Rep.the-row (Is Rep.the-row) (LL.makes Rep.the-type Rep′.the-plain 𝓤 H A) r _ is $ done !
 
   -- ---- what the callees are passed

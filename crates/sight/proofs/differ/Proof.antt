@@ -2,7 +2,7 @@
 use mathlib.Core.Path.{_≡_, sym, ap, _∙_}
 use mathlib.Core.Bool.{true, false, not}
 use borrow.Author.Tests.{not-true, not-false}
-use Rattle.image.specs.Table.{is-empty}
+use Rattle.partner.specs.Table.{is-empty}
 use borrow.Author.Needs.{needs}
 use Rattle.sight.specs.Sight.{differ}
 use Rattle.sight.proofs.differ.Statement.{statement}

@@ -5,7 +5,7 @@ use Rattle.octets.specs.Number.{copies}
 use Rattle.partner.specs.Record.{entry-bytes, put-entry}
 use mathlib.Core.Path.{ap, _∙_}
 use borrow.Author.Needs.{needs}
-use Rattle.image.specs.Table.{is-empty}
+use Rattle.partner.specs.Table.{is-empty}
 use Rattle.sight.proofs.is_empty.Statement.{statement}
 use Rattle.sight.proofs.is_empty.Tie as tie
 

@@ -1,5 +1,5 @@
 -- `sight::is_sought` meets its contract: by what is sought. Assumes nothing.
-use Rattle.image.specs.Table.{is-empty}
+use Rattle.partner.specs.Table.{is-empty}
 use Rattle.sight.specs.Sight.{is-theirs}
 use mathlib.Core.Path.{_≡_, sym, ap, _∙_}
 use mathlib.Core.Bool.{Bool, true, cond}

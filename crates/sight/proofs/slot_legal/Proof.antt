@@ -3,7 +3,7 @@ use mathlib.Core.Path.{_≡_, sym, _∙_}
 use mathlib.Core.Bool.{true, false}
 use borrow.Author.Tests.{not-true, not-false}
 use Rattle.octets.specs.Text.{same}
-use Rattle.image.specs.Table.{is-empty}
+use Rattle.partner.specs.Table.{is-empty}
 use borrow.Author.Needs.{needs}
 use Rattle.sight.specs.Sight.{slot-legal}
 use Rattle.sight.proofs.slot_legal.Statement.{statement}

@@ -1,116 +1,104 @@
 -- `turn::turn` meets its contract: act by act. Assumes nothing.
+use mathlib.Core.Path.{refl, sym, ap, _∙_}
 use lib.ListN.{length}
-use Rattle.turn.proofs.Acting.{acts-as, gives-as, gives-up, empties}
+use Rattle.partner.specs.declared.Name.{Name}
+use Rattle.partner.specs.Changes.{loaded}
+use Rattle.outcome.specs.Acts.{build-ksm}
+use Rattle.turn.specs.Way.{turn}
+use Rattle.turn.proofs.Acting.{turns-as, gives-as, gives-up, gives-plain}
 use borrow.Author.Needs.{needs}
 use Rattle.turn.proofs.turn.Statement.{statement}
 use Rattle.turn.proofs.turn.Tie as tie
 
-enum-told : tie.Need-enum-told
-enum-told c = search needs
-
-receive-requires : tie.Need-receive-requires
-receive-requires c κs = search needs
-
-enum-told-2 : tie.Need-enum-told-2
-enum-told-2 c = search needs
-
-build-ksm-requires : tie.Need-build-ksm-requires
-build-ksm-requires c κs = search needs
-
-enum-told-3 : tie.Need-enum-told-3
-enum-told-3 c = search needs
-
-build-rsi-requires : tie.Need-build-rsi-requires
-build-rsi-requires c κs = search needs
-
-enum-told-4 : tie.Need-enum-told-4
-enum-told-4 c = search needs
-
-give-up-requires : tie.Need-give-up-requires
-give-up-requires c κs = search needs
-
-enum-told-5 : tie.Need-enum-told-5
-enum-told-5 c = search needs
-
-empty-requires : tie.Need-empty-requires
-empty-requires c κs = search needs
-
-no-date-requires : tie.Need-no-date-requires
-no-date-requires c κs = search needs
-
-done-requires : tie.Need-done-requires
-done-requires c κs = search needs
-
-same-length : tie.Need-same-length
-same-length c = search needs
-
 returns : tie.Need-returns
+unfolding turn
 returns c =
     let a = c .before .before .before .before .before .before .before .before .before .args in
     let l = a .reply .now in
     let h = c .before .before .before .before .enum-told .given .1 in
-    let p = acts-as (a .a) (a .own .now) (a .e) (length l) (a .text .now) h in
+    let p = turns-as (a .act) (a .own .now) (a .partner) (a .e) (a .text .now) (length l) h in
     gives-as l p (c .before .before .receive .ensures)
 
-same-length-2 : tie.Need-same-length-2
-same-length-2 c = search needs
-
 returns-2 : tie.Need-returns-2
+unfolding turn
 returns-2 c =
-    let a = c .before .before .before .before .before .before .before .before .before .args in
+    let a = c .before .before .before .before .before .before .before .before .before .before .args in
     let l = a .reply .now in
-    let h = c .before .before .before .before .enum-told2 .given .1 in
-    let p = acts-as (a .a) (a .own .now) (a .e) (length l) (a .text .now) h in
+    let h = c .before .before .before .before .before .enum-told2 .given .1 in
+    let p = turns-as (a .act) (a .own .now) (a .partner) (a .e) (a .text .now) (length l) h
+    ∙ ap (build-ksm (a .own .now) (a .e) (length l)) (sym (c .before .before .before .before .request-in .ensures)) in
     gives-as l p (c .before .before .build-ksm .ensures)
 
-same-length-3 : tie.Need-same-length-3
-same-length-3 c = search needs
-
 returns-3 : tie.Need-returns-3
+unfolding turn
 returns-3 c =
     let a = c .before .before .before .before .before .before .before .before .before .args in
     let l = a .reply .now in
     let h = c .before .before .before .before .enum-told3 .given .1 in
-    let p = acts-as (a .a) (a .own .now) (a .e) (length l) (a .text .now) h in
+    let p = turns-as (a .act) (a .own .now) (a .partner) (a .e) (a .text .now) (length l) h in
     gives-as l p (c .before .before .build-rsi .ensures)
 
 returns-4 : tie.Need-returns-4
+unfolding turn
 returns-4 c =
     let a = c .before .before .before .before .before .before .args in
     let l = a .reply .now in
-    let h = c .before .enum-told4 .given .1 in
-    let p = acts-as (a .a) (a .own .now) (a .e) (length l) (a .text .now) h in
+    let p = turns-as (a .act) (a .own .now) (a .partner) (a .e) (a .text .now) (length l) (c .before .enum-told4 .given .1) in
     gives-as l p (gives-up (a .e) l (c .give-up .ensures))
 
 returns-5 : tie.Need-returns-5
+unfolding turn
 returns-5 c =
-    let a = c .before .before .before .before .before .before .before .before .args in
+    let a = c .before .before .before .before .before .before .before .args in
     let l = a .reply .now in
-    let h = c .before .before .before .enum-told5 .given .1 in
-    let p = acts-as (a .a) (a .own .now) (a .e) (length l) (a .text .now) h in
-    gives-as l p (empties (a .e) l (c .done .ensures) (c .before .before .empty .ensures) (c .before .no-date .ensures))
+    let p = turns-as (a .act) (a .own .now) (a .partner) (a .e) (a .text .now) (length l) (c .before .before .enum-told5 .given .1) in
+    gives-as l p (gives-plain _ l (c .plain .ensures) (c .before .empty .ensures))
+
+returns-6 : tie.Need-returns-6
+unfolding turn
+returns-6 c =
+    let a = c .before .before .before .before .before .before .args in
+    let l = a .reply .now in
+    let p = turns-as (a .act) (a .own .now) (a .partner) (a .e) (a .text .now) (length l) (c .before .enum-told6 .given .1) in
+    gives-as l p (gives-plain (a .e) l (c .plain2 .ensures) refl)
+
+returns-7 : tie.Need-returns-7
+unfolding turn
+returns-7 c =
+    let a = c .before .before .before .before .before .before .before .before .before .args in
+    let l = a .reply .now in
+    let p = turns-as (a .act) (a .own .now) (a .partner) (a .e) (a .text .now) (length l) (c .before .before .before .before .act .given .1) in
+    gives-as l p (gives-plain _ l (c .plain3 .ensures) (c .before .loaded .ensures ∙ ap (λ (n : Name). loaded (a .partner) n (c .before .before .before .before .act .given .0 .0)) (c .before .before .name-of .ensures)))
 
 pub turn-spec : {M : Type 1} → statement M
 turn-spec =
     tie.close
     (tie.spec
-    enum-told
-    receive-requires
-    enum-told-2
-    build-ksm-requires
-    enum-told-3
-    build-rsi-requires
-    enum-told-4
-    give-up-requires
-    enum-told-5
-    empty-requires
-    no-date-requires
-    done-requires
-    same-length
+    (λ c. search needs)
+    (λ c κs. search needs)
+    (λ c. search needs)
+    (λ c κs. search needs)
+    (λ c κs. search needs)
+    (λ c. search needs)
+    (λ c κs. search needs)
+    (λ c. search needs)
+    (λ c κs. search needs)
+    (λ c. search needs)
+    (λ c κs. search needs)
+    (λ c κs. search needs)
+    (λ c. search needs)
+    (λ c κs. search needs)
+    (λ c. search needs)
+    (λ c κs. search needs)
+    (λ c κs. search needs)
+    (λ c κs. search needs)
+    (λ c. search needs)
     returns
-    same-length-2
+    (λ c. search needs)
     returns-2
-    same-length-3
+    (λ c. search needs)
     returns-3
     returns-4
-    returns-5)
+    returns-5
+    returns-6
+    returns-7)

@@ -5,15 +5,6 @@ use Rattle.partner.specs.Legal.{is-named}
 use Rattle.partner.proofs.rules.is_named.Statement.{statement}
 use Rattle.partner.proofs.rules.is_named.Tie as tie
 
-slice-aggregate-same : tie.Need-slice-aggregate-same
-slice-aggregate-same c = search needs
-
-same-requires : tie.Need-same-requires
-same-requires c κs = search needs
-
-is-filled-requires : tie.Need-is-filled-requires
-is-filled-requires c κs = search needs
-
 returns : tie.Need-returns
 unfolding is-named
 returns c = simp (sym (c .before .same .ensures) ∙ c .if1 .taken) (c .if1 .taken)
@@ -26,4 +17,4 @@ returns-2 c =
 
 pub is-named-spec : {M : Type 1} → statement M
 is-named-spec =
-    tie.close (tie.spec slice-aggregate-same same-requires is-filled-requires returns returns-2)
+    tie.close (tie.spec (λ c. search needs) (λ c κs. search needs) (λ c κs. search needs) returns returns-2)

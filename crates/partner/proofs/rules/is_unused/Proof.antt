@@ -5,12 +5,6 @@ use Rattle.partner.specs.Legal.{is-unused}
 use Rattle.partner.proofs.rules.is_unused.Statement.{statement}
 use Rattle.partner.proofs.rules.is_unused.Tie as tie
 
-slice-aggregate-same : tie.Need-slice-aggregate-same
-slice-aggregate-same c = search needs
-
-same-requires : tie.Need-same-requires
-same-requires c κs = search needs
-
 returns : tie.Need-returns
 unfolding is-unused
 returns c = simp (eq-eqb _ 0 (c .before .before .before .before .before .if1 .taken)) (c .same .ensures)
@@ -20,4 +14,4 @@ unfolding is-unused
 returns-2 c = simp (ne-eqb _ 0 (c .if1 .left))
 
 pub is-unused-spec : {M : Type 1} → statement M
-is-unused-spec = tie.close (tie.spec slice-aggregate-same same-requires returns returns-2)
+is-unused-spec = tie.close (tie.spec (λ c. search needs) (λ c κs. search needs) returns returns-2)

@@ -4,25 +4,10 @@ use Rattle.octets.specs.Text.{Text}
 use Rattle.csm.specs.Message.{Reading}
 use Rattle.messages.specs.Readings.{esm-reading}
 use Rattle.messages.specs.Answers.{answer, length-of, buffer}
-use Rattle.receiving.proofs.Replying.{error-turned, error-replied}
+use Rattle.receiving.proofs.Replying.{error-told, error-replied}
 use borrow.Author.Needs.{needs}
 use Rattle.receiving.proofs.replies.error.Statement.{statement}
 use Rattle.receiving.proofs.replies.error.Tie as tie
-
-bare-requires : tie.Need-bare-requires
-bare-requires c κs = search needs
-
-write-esm-requires : tie.Need-write-esm-requires
-write-esm-requires c κs = search needs
-
-length-of-requires : tie.Need-length-of-requires
-length-of-requires c κs = search needs
-
-complained-requires : tie.Need-complained-requires
-complained-requires c κs = search needs
-
-same-length : tie.Need-same-length
-same-length c = search needs
 
 returns : tie.Need-returns
 returns c =
@@ -35,8 +20,8 @@ returns c =
     let count = c .before .length-of .ensures ∙ ap length-of (w .write-esm .ensures .0)
     ∙ ap (λ (n : Text). length-of (answer (reading n) (a .reply .now))) name in
     let text = w .write-esm .ensures .1 ∙ ap (λ (n : Text). buffer (reading n) (a .reply .now)) name in (
-      c .complained .ensures
-          ∙ error-turned (a .own .now) (a .e) (a .reply .now) (s .pre .0) (a .letters) (a .counts) _ lawful count,
+      c .complaint .ensures
+          ∙ error-told (a .own .now) (a .e) (a .reply .now) (s .pre .0) (a .letters) (a .counts) _ lawful count,
       text ∙ error-replied (a .own .now) (a .e) (a .reply .now) (s .pre .0) (a .letters) (a .counts) lawful,
     )
 
@@ -44,9 +29,9 @@ pub error-spec : {M : Type 1} → statement M
 error-spec =
     tie.close
     (tie.spec
-    bare-requires
-    write-esm-requires
-    length-of-requires
-    complained-requires
-    same-length
+    (λ c κs. search needs)
+    (λ c κs. search needs)
+    (λ c κs. search needs)
+    (λ c κs. search needs)
+    (λ c. search needs)
     returns)

@@ -1,7 +1,5 @@
 -- `row::stored::written` meets its contract: a refusal, or the front and its report. Assumes nothing.
 use mathlib.Core.Path.{sym, ap, _∙_}
-use Rattle.calls.specs.declared.Date.{Date}
-use Rattle.outcome.specs.declared.Telling.the-variants.{Nothing}
 use borrow.Author.Tests.{eq-eqb, ne-eqb}
 use Rattle.row.specs.Stored.{write-report, fronted}
 use borrow.Author.Needs.{needs}
@@ -20,8 +18,8 @@ returns c =
 put-front-requires : tie.Need-put-front-requires
 put-front-requires c κs = search needs
 
-no-date-requires : tie.Need-no-date-requires
-no-date-requires c κs = search needs
+told-nothing-requires : tie.Need-told-nothing-requires
+told-nothing-requires c κs = search needs
 
 same-length : tie.Need-same-length
 same-length c = search needs
@@ -30,9 +28,9 @@ returns-2 : tie.Need-returns-2
 unfolding write-report fronted
 returns-2 c =
     let f = eq-eqb _ 0 (c .before .before .before .before .before .if1 .left) in
-    (ap (λ (d : Date). record { answer = 0; letters = 0; length = c .before .before .before .before .before .before .before .before .args .size; telling = Nothing; date = d }) (c .no-date .ensures) ∙ sym (rw f), c .before .before .before .put-front .ensures ∙ sym (rw f))
+    (c .told-nothing .ensures ∙ sym (rw f), c .before .before .before .put-front .ensures ∙ sym (rw f))
 
 pub written-spec : {M : Type 1} → statement M
 written-spec =
     tie.close
-    (tie.spec refusal-requires returns put-front-requires no-date-requires same-length returns-2)
+    (tie.spec refusal-requires returns put-front-requires told-nothing-requires same-length returns-2)

@@ -18,6 +18,7 @@ returns c =
       theirs = x .theirs;
       vacant = true;
       answer = x .answer;
+      room = x .room;
     }) (c .at-partner .ensures)
 
 pub at-free-slot-spec : {M : Type 1} → statement M

@@ -21,6 +21,7 @@ returns c =
       theirs = x .theirs;
       vacant = x .vacant;
       answer = a .answer;
+      room = x .room;
     }) (c .at-partner .ensures)
 
 pub refused-spec : {M : Type 1} → statement M

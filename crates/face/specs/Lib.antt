@@ -1,3 +1,0 @@
-pub mod Report
-pub mod Request
-pub mod Examples
