@@ -120,7 +120,7 @@ pub fn ask(image: &[u8], partner: &[u8], reply: &mut [u8]) -> Report
     if found.answer != 0 {
         return outcome::refusal(found.answer);
     }
-    outcome::told_nothing(partner::put_entry(reply, found.entry))
+    outcome::told_nothing(record::put_entry(reply, found.entry))
 }
 
 // ---- a whole new image

@@ -47,9 +47,9 @@ pub fn entry_at(image: &[u8], at: usize) -> Entry
     ensures { λ r. ⌜ r ≡ places.entry-at at (now (image .entry)) ⌝ }
 {
     if at < image.len() {
-        partner::entry_in(part(image, at + 1, 156))
+        record::entry_in(part(image, at + 1, 156))
     } else {
-        partner::entry_in(part(image, at, 156))
+        record::entry_in(part(image, at, 156))
     }
 }
 
@@ -88,7 +88,7 @@ pub fn put_at(image: &mut [u8], at: usize, e: Entry)
 {
     if at < image.len() {
         let body = at + 1;
-        partner::put_entry(&mut image[body..], e);
+        record::put_entry(&mut image[body..], e);
     }
 }
 
@@ -99,7 +99,7 @@ fn put_partner(rest: &mut [u8], e: Entry) -> usize
     ensures { λ r. ⌜ r ≡ 157 ⌝ }
 {
     let a = octets::fill(rest, 1, 2);
-    a + partner::put_entry(&mut rest[a..], e)
+    a + record::put_entry(&mut rest[a..], e)
 }
 
 // The image with a partner in the empty slot at a place.

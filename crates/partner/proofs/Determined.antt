@@ -63,12 +63,6 @@ given-up κs a x y v w p q = (alike p q, refl)
 pub failed : One-outcome fn.changes.failed.ended fn.changes.failed.Reads.Post
 failed κs a x y v w p q = (alike p q, refl)
 
-pub entry-in : One-outcome fn.record.entry_in.ended fn.record.entry_in.Reads.Post
-entry-in κs a x y v w p q = (alike p q, refl)
-
-pub put-entry : One-outcome fn.record.put_entry.ended fn.record.put_entry.Reads.Post
-put-entry κs a x y v w p q = (alike (p .1) (q .1), alike (p .0) (q .0) also refl)
-
 pub is-filled : One-outcome fn.rules.is_filled.ended fn.rules.is_filled.Reads.Post
 is-filled κs a x y v w p q = (alike p q, refl)
 

@@ -1,10 +1,9 @@
-// One partner's entry: its fields, when it is legal, its record's bytes, and the changes that the steps make.
+// One partner's entry: its fields, when it is legal, and the changes that the steps make.
 ghost use mathlib.Core.Path.{_≡_};
 ghost use Rattle.keying.specs.Keys.{listed};
 ghost use Rattle.partner.specs.Entry as entry;
 
 mod changes;
-mod record;
 mod rules;
 
 pub use changes::accepted;
@@ -15,8 +14,6 @@ pub use changes::loaded;
 pub use changes::settled;
 use keying::DataKeys;
 use keying::Top;
-pub use record::entry_in;
-pub use record::put_entry;
 pub use rules::broken;
 pub use rules::is_filled;
 pub use rules::legal;

@@ -56,7 +56,7 @@ fn put_record(rest: &mut [u8], e: Entry) -> usize
         return octets::fill(rest, 1, 0);
     }
     let a = octets::fill(rest, 1, 2);
-    a + partner::put_entry(&mut rest[a..], e)
+    a + record::put_entry(&mut rest[a..], e)
 }
 
 // A slot's record at a place, where there is room for it; the place behind it.

@@ -35,7 +35,7 @@ pub fn is_empty(e: Entry) -> bool
 {
     let mut bytes = [0u8; 156];
     let zero = [0u8; 156];
-    partner::put_entry(&mut bytes, e);
+    record::put_entry(&mut bytes, e);
     octets::same(&bytes, &zero)
 }
 

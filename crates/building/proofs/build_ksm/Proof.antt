@@ -9,12 +9,6 @@ use borrow.Author.Needs.{needs}
 use Rattle.building.proofs.build_ksm.Statement.{statement}
 use Rattle.building.proofs.build_ksm.Tie as tie
 
-judge-requires : tie.Need-judge-requires
-judge-requires c κs = search needs
-
-refused-requires : tie.Need-refused-requires
-refused-requires c κs = search needs
-
 returns : tie.Need-returns
 returns c =
     let a = c .before .before .before .before .before .args in
@@ -25,18 +19,6 @@ returns c =
 
 write-requires : tie.Need-write-requires
 write-requires c κs = sym (c .before .before .judge .ensures) ∙ c .before .if1 .left
-
-outgoing-requires : tie.Need-outgoing-requires
-outgoing-requires c κs = search needs
-
-issued-requires : tie.Need-issued-requires
-issued-requires c κs = search needs
-
-told-nothing-requires : tie.Need-told-nothing-requires
-told-nothing-requires c κs = search needs
-
-same-length : tie.Need-same-length
-same-length c = search needs
 
 returns-2 : tie.Need-returns-2
 returns-2 c =
@@ -53,12 +35,12 @@ pub build-ksm-spec : {M : Type 1} → statement M
 build-ksm-spec =
     tie.close
     (tie.spec
-    judge-requires
-    refused-requires
+    (λ c κs. search needs)
+    (λ c κs. search needs)
     returns
     write-requires
-    outgoing-requires
-    issued-requires
-    told-nothing-requires
-    same-length
+    (λ c κs. search needs)
+    (λ c κs. search needs)
+    (λ c κs. search needs)
+    (λ c. search needs)
     returns-2)

@@ -9,12 +9,6 @@ use borrow.Author.Needs.{needs}
 use Rattle.building.proofs.build_rsi.Statement.{statement}
 use Rattle.building.proofs.build_rsi.Tie as tie
 
-is-sound-requires : tie.Need-is-sound-requires
-is-sound-requires c κs = search needs
-
-refused-requires : tie.Need-refused-requires
-refused-requires c κs = search needs
-
 returns : tie.Need-returns
 returns c =
     let a = c .before .before .before .before .before .before .args in
@@ -22,27 +16,12 @@ returns c =
     refuses (a .e) 13 (a .reply .now) (rsi-unsound (a .own .now) (a .e) (length (a .reply .now)) (a .contents .now) h)
     (c .refused .ensures)
 
-refused-requires-2 : tie.Need-refused-requires-2
-refused-requires-2 c κs = search needs
-
 returns-2 : tie.Need-returns-2
 returns-2 c =
     let a = c .before .before .before .before .before .before .before .args in
     let h = sym (c .before .before .before .is-sound .ensures) ∙ not-false _ (c .before .before .if1 .left) in
     let t = rsi-narrow (a .own .now) (a .e) (length (a .reply .now)) (a .contents .now) h (c .before .if2 .taken) in
     refuses (a .e) 6 (a .reply .now) t (c .refused2 .ensures)
-
-service-requires : tie.Need-service-requires
-service-requires c κs = search needs
-
-enum-known-value : tie.Need-enum-known-value
-enum-known-value c = search needs
-
-enum-told : tie.Need-enum-told
-enum-told c = search needs
-
-refused-requires-3 : tie.Need-refused-requires-3
-refused-requires-3 c κs = search needs
 
 returns-3 : tie.Need-returns-3
 returns-3 c =
@@ -62,12 +41,6 @@ write-rsi-requires c κs =
       service-known w (v .0 .0) (v .0 .1 .0) (sym (c .before .before .before .before .service .ensures) ∙ v .1),
     )
 
-told-nothing-requires : tie.Need-told-nothing-requires
-told-nothing-requires c κs = search needs
-
-same-length : tie.Need-same-length
-same-length c = search needs
-
 returns-4 : tie.Need-returns-4
 returns-4 c =
     let s = c .before .before .before .before .before .before .before .before .before in
@@ -83,17 +56,17 @@ pub build-rsi-spec : {M : Type 1} → statement M
 build-rsi-spec =
     tie.close
     (tie.spec
-    is-sound-requires
-    refused-requires
+    (λ c κs. search needs)
+    (λ c κs. search needs)
     returns
-    refused-requires-2
+    (λ c κs. search needs)
     returns-2
-    service-requires
-    enum-known-value
-    enum-told
-    refused-requires-3
+    (λ c κs. search needs)
+    (λ c. search needs)
+    (λ c. search needs)
+    (λ c κs. search needs)
     returns-3
     write-rsi-requires
-    told-nothing-requires
-    same-length
+    (λ c κs. search needs)
+    (λ c. search needs)
     returns-4)

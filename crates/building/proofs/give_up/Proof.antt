@@ -13,20 +13,11 @@ use borrow.Author.Needs.{needs}
 use Rattle.building.proofs.give_up.Statement.{statement}
 use Rattle.building.proofs.give_up.Tie as tie
 
-refused-requires : tie.Need-refused-requires
-refused-requires c κs = search needs
-
 returns : tie.Need-returns
 unfolding give-up is-waiting
 returns c =
     let e = c .before .before .before .args .e in
     refuses e 5 [] (if-true _ _ _ (ap not (ne-eqb (e .phase) 1 (c .before .if1 .taken)))) (c .refused .ensures) .0
-
-given-up-requires : tie.Need-given-up-requires
-given-up-requires c κs = search needs
-
-told-nothing-requires : tie.Need-told-nothing-requires
-told-nothing-requires c κs = search needs
 
 returns-2 : tie.Need-returns-2
 unfolding give-up is-waiting fronted
@@ -39,4 +30,4 @@ returns-2 c =
 pub give-up-spec : {M : Type 1} → statement M
 give-up-spec =
     tie.close
-    (tie.spec refused-requires returns given-up-requires told-nothing-requires returns-2)
+    (tie.spec (λ c κs. search needs) returns (λ c κs. search needs) (λ c κs. search needs) returns-2)

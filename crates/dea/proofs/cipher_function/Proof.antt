@@ -10,12 +10,6 @@ use borrow.Author.Needs.{needs}
 use Rattle.dea.proofs.cipher_function.Statement.{statement}
 use Rattle.dea.proofs.cipher_function.Tie as tie
 
-expand-requires : tie.Need-expand-requires
-expand-requires c κs = search needs
-
-substitute-requires : tie.Need-substitute-requires
-substitute-requires c κs = search needs
-
 pick-requires : tie.Need-pick-requires
 unfolding P
 pick-requires c κs = rw (c .before .before .before .before .pre .1) (tt, omega arith, omega arith)
@@ -34,4 +28,4 @@ returns c = cc
 
 pub cipher-function-spec : {M : Type 1} → statement M
 cipher-function-spec =
-    tie.close (tie.spec expand-requires substitute-requires pick-requires cast-result returns)
+    tie.close (tie.spec (λ c κs. search needs) (λ c κs. search needs) pick-requires cast-result returns)

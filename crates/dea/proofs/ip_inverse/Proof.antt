@@ -4,21 +4,6 @@ use borrow.Author.Needs.{needs}
 use Rattle.dea.proofs.ip_inverse.Statement.{statement}
 use Rattle.dea.proofs.ip_inverse.Tie as tie
 
-swap-requires : tie.Need-swap-requires
-swap-requires c κs = search needs
-
-swap-requires-2 : tie.Need-swap-requires-2
-swap-requires-2 c κs = search needs
-
-swap-requires-3 : tie.Need-swap-requires-3
-swap-requires-3 c κs = search needs
-
-swap-requires-4 : tie.Need-swap-requires-4
-swap-requires-4 c κs = search needs
-
-swap-requires-5 : tie.Need-swap-requires-5
-swap-requires-5 c κs = search needs
-
 returns : tie.Need-returns
 returns c =
     let s = c .before .before .before .before .before in
@@ -28,9 +13,9 @@ pub ip-inverse-spec : {M : Type 1} → statement M
 ip-inverse-spec =
     tie.close
     (tie.spec
-    swap-requires
-    swap-requires-2
-    swap-requires-3
-    swap-requires-4
-    swap-requires-5
+    (λ c κs. search needs)
+    (λ c κs. search needs)
+    (λ c κs. search needs)
+    (λ c κs. search needs)
+    (λ c κs. search needs)
     returns)

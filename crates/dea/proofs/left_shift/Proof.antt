@@ -5,18 +5,6 @@ use borrow.Author.Needs.{needs}
 use Rattle.dea.proofs.left_shift.Statement.{statement}
 use Rattle.dea.proofs.left_shift.Tie as tie
 
-shl-result : tie.Need-shl-result
-shl-result c = search needs
-
-sub-result : tie.Need-sub-result
-sub-result c = search needs
-
-cast-result : tie.Need-cast-result
-cast-result c = search needs
-
-shr-result : tie.Need-shr-result
-shr-result c = search needs
-
 add-result : tie.Need-add-result
 add-result c = omega (arith, shift-is (c .args .s) (c .args .c), shift-lt (c .args .s) (c .args .c) (c .pre .0) (c .pre .1))
 
@@ -26,4 +14,4 @@ returns c =
 
 pub left-shift-spec : {M : Type 1} → statement M
 left-shift-spec =
-    tie.close (tie.spec shl-result sub-result cast-result shr-result add-result returns)
+    tie.close (tie.spec (λ c. search needs) (λ c. search needs) (λ c. search needs) (λ c. search needs) add-result returns)

@@ -4,15 +4,9 @@ use borrow.Author.Needs.{needs}
 use Rattle.dea.proofs.pc1.Statement.{statement}
 use Rattle.dea.proofs.pc1.Tie as tie
 
-slice-aggregate-pick : tie.Need-slice-aggregate-pick
-slice-aggregate-pick c = search needs
-
-pick-requires : tie.Need-pick-requires
-pick-requires c κs = search needs
-
 returns : tie.Need-returns
 unfolding PC-1
 returns c = search needs
 
 pub pc1-spec : {M : Type 1} → statement M
-pc1-spec = tie.close (tie.spec slice-aggregate-pick pick-requires returns)
+pc1-spec = tie.close (tie.spec (λ c. search needs) (λ c κs. search needs) returns)

@@ -4,15 +4,9 @@ use borrow.Author.Needs.{needs}
 use Rattle.dea.proofs.swap.Statement.{statement}
 use Rattle.dea.proofs.swap.Tie as tie
 
-shr-t : tie.Need-shr-t
-shr-t c = search needs
-
-shl-result : tie.Need-shl-result
-shl-result c = search needs
-
 returns : tie.Need-returns
 unfolding exchange
 returns c = search needs
 
 pub swap-spec : {M : Type 1} → statement M
-swap-spec = tie.close (tie.spec shr-t shl-result returns)
+swap-spec = tie.close (tie.spec (λ c. search needs) (λ c. search needs) returns)

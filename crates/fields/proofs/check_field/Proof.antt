@@ -16,15 +16,6 @@ use borrow.Author.Needs.{needs}
 use Rattle.fields.proofs.check_field.Statement.{statement}
 use Rattle.fields.proofs.check_field.Tie as tie
 
-half-field-requires : tie.Need-half-field-requires
-half-field-requires c κs = search needs
-
-enum-known-high : tie.Need-enum-known-high
-enum-known-high c = search needs
-
-enum-told : tie.Need-enum-told
-enum-told c = search needs
-
 returns : tie.Need-returns
 returns c =
     let a = c .before .before .before .before .before .args in
@@ -53,18 +44,6 @@ add-next-2 c = omega (arith, first c .within)
 
 add-next-3 : tie.Need-add-next-3
 add-next-3 c = omega (arith, first c .within)
-
-slice-aggregate-half-field : tie.Need-slice-aggregate-half-field
-slice-aggregate-half-field c = search needs
-
-half-field-requires-2 : tie.Need-half-field-requires-2
-half-field-requires-2 c κs = search needs
-
-enum-known-low : tie.Need-enum-known-low
-enum-known-low c = search needs
-
-enum-told-2 : tie.Need-enum-told-2
-enum-told-2 c = search needs
 
 -- what is read of the whole, by what is read of the second half
 both : (c : tie.After-known-told) (o : Option (ℕ × Text))
@@ -114,17 +93,17 @@ pub check-field-spec : {M : Type 1} → statement M
 check-field-spec =
     tie.close
     (tie.spec
-    half-field-requires
-    enum-known-high
-    enum-told
+    (λ c κs. search needs)
+    (λ c. search needs)
+    (λ c. search needs)
     returns
     add-next
     add-next-2
     add-next-3
-    slice-aggregate-half-field
-    half-field-requires-2
-    enum-known-low
-    enum-told-2
+    (λ c. search needs)
+    (λ c κs. search needs)
+    (λ c. search needs)
+    (λ c. search needs)
     returns-2
     mul-t16
     add-t17

@@ -11,9 +11,6 @@ use borrow.Author.Needs.{needs}
 use Rattle.fields.proofs.contents.Statement.{statement}
 use Rattle.fields.proofs.contents.Tie as tie
 
-starts-requires : tie.Need-starts-requires
-starts-requires c κs = search needs
-
 returns : tie.Need-returns
 returns c =
     let a = c .before .before .before .before .args in
@@ -26,9 +23,6 @@ add-from c =
     let s = a .text .now in
     let yes = sym (c .before .starts .ensures) ∙ not-false _ (c .if1 .left) in
     omega (arith, starts-fits (a .tag .now) (drop (a .at) s) yes, length-drop (a .at) s)
-
-until-requires : tie.Need-until-requires
-until-requires c κs = search needs
 
 returns-2 : tie.Need-returns-2
 returns-2 c =
@@ -46,4 +40,4 @@ returns-3 c =
 
 pub contents-spec : {M : Type 1} → statement M
 contents-spec =
-    tie.close (tie.spec starts-requires returns add-from until-requires returns-2 returns-3)
+    tie.close (tie.spec (λ c κs. search needs) returns add-from (λ c κs. search needs) returns-2 returns-3)

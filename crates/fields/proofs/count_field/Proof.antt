@@ -9,15 +9,6 @@ use borrow.Author.Needs.{needs}
 use Rattle.fields.proofs.count_field.Statement.{statement}
 use Rattle.fields.proofs.count_field.Tie as tie
 
-contents-requires : tie.Need-contents-requires
-contents-requires c κs = search needs
-
-enum-known-from : tie.Need-enum-known-from
-enum-known-from c = search needs
-
-enum-told : tie.Need-enum-told
-enum-told c = search needs
-
 returns : tie.Need-returns
 returns c =
     let a = c .before .before .before .before .before .args in
@@ -40,9 +31,6 @@ part-count-start c = where-found c .ordered
 part-count-end : tie.Need-part-count-end
 part-count-end c = omega (arith, where-found c .within)
 
-count-requires : tie.Need-count-requires
-count-requires c κs = search needs
-
 returns-2 : tie.Need-returns-2
 returns-2 c =
     let k = c .before .before in
@@ -54,12 +42,12 @@ pub count-field-spec : {M : Type 1} → statement M
 count-field-spec =
     tie.close
     (tie.spec
-    contents-requires
-    enum-known-from
-    enum-told
+    (λ c κs. search needs)
+    (λ c. search needs)
+    (λ c. search needs)
     returns
     sub-count
     part-count-start
     part-count-end
-    count-requires
+    (λ c κs. search needs)
     returns-2)

@@ -9,15 +9,6 @@ use borrow.Author.Needs.{needs}
 use Rattle.fields.proofs.half_field.Statement.{statement}
 use Rattle.fields.proofs.half_field.Tie as tie
 
-contents-requires : tie.Need-contents-requires
-contents-requires c κs = search needs
-
-enum-known-from : tie.Need-enum-known-from
-enum-known-from c = search needs
-
-enum-told : tie.Need-enum-told
-enum-told c = search needs
-
 returns : tie.Need-returns
 returns c =
     let a = c .before .before .before .before .before .args in
@@ -41,9 +32,6 @@ part-half-start c = where-found c .ordered
 part-half-end : tie.Need-part-half-end
 part-half-end c = omega (arith, where-found c .within)
 
-half-requires : tie.Need-half-requires
-half-requires c κs = search needs
-
 returns-2 : tie.Need-returns-2
 returns-2 c =
     let k = c .before .before in
@@ -56,12 +44,12 @@ pub half-field-spec : {M : Type 1} → statement M
 half-field-spec =
     tie.close
     (tie.spec
-    contents-requires
-    enum-known-from
-    enum-told
+    (λ c κs. search needs)
+    (λ c. search needs)
+    (λ c. search needs)
     returns
     sub-half
     part-half-start
     part-half-end
-    half-requires
+    (λ c κs. search needs)
     returns-2)

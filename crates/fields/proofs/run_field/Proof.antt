@@ -11,15 +11,6 @@ use borrow.Author.Needs.{needs}
 use Rattle.fields.proofs.run_field.Statement.{statement}
 use Rattle.fields.proofs.run_field.Tie as tie
 
-contents-requires : tie.Need-contents-requires
-contents-requires c κs = search needs
-
-enum-known-from : tie.Need-enum-known-from
-enum-known-from c = search needs
-
-enum-told : tie.Need-enum-told
-enum-told c = search needs
-
 returns : tie.Need-returns
 returns c =
     let a = c .before .before .before .before .before .args in
@@ -42,9 +33,6 @@ part-is-run-start c = where-found c .ordered
 
 part-is-run-end : tie.Need-part-is-run-end
 part-is-run-end c = omega (arith, where-found c .within)
-
-is-run-requires : tie.Need-is-run-requires
-is-run-requires c κs = search needs
 
 sub-t15 : tie.Need-sub-t15
 sub-t15 c = where-found (c .before .before .before) .ordered
@@ -69,14 +57,14 @@ pub run-field-spec : {M : Type 1} → statement M
 run-field-spec =
     tie.close
     (tie.spec
-    contents-requires
-    enum-known-from
-    enum-told
+    (λ c κs. search needs)
+    (λ c. search needs)
+    (λ c. search needs)
     returns
     sub-is-run
     part-is-run-start
     part-is-run-end
-    is-run-requires
+    (λ c κs. search needs)
     sub-t15
     returns-2
     returns-3)

@@ -11,22 +11,10 @@ use Rattle.image.proofs.Steps.{front-other, front-ours}
 use Rattle.image.proofs.front_legal.Statement.{statement}
 use Rattle.image.proofs.front_legal.Tie as tie
 
-byte-at-requires : tie.Need-byte-at-requires
-byte-at-requires c κs = search needs
-
 returns : tie.Need-returns
 returns c =
     let im : Text = c .before .before .before .args .image .now in
     sym (front-other im (λ z. c .if1 .taken (c .before .byte-at .ensures ∙ z)))
-
-own-identity-requires : tie.Need-own-identity-requires
-own-identity-requires c κs = search needs
-
-is-filled-requires : tie.Need-is-filled-requires
-is-filled-requires c κs = search needs
-
-is-apart-requires : tie.Need-is-apart-requires
-is-apart-requires c κs = search needs
 
 returns-2 : tie.Need-returns-2
 returns-2 c =
@@ -55,10 +43,10 @@ pub front-legal-spec : {M : Type 1} → statement M
 front-legal-spec =
     tie.close
     (tie.spec
-    byte-at-requires
+    (λ c κs. search needs)
     returns
-    own-identity-requires
-    is-filled-requires
-    is-apart-requires
+    (λ c κs. search needs)
+    (λ c κs. search needs)
+    (λ c κs. search needs)
     returns-2
     returns-3)

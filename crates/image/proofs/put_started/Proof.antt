@@ -13,42 +13,6 @@ use Rattle.image.proofs.Buffers.{started-as}
 use Rattle.image.proofs.put_started.Statement.{statement}
 use Rattle.image.proofs.put_started.Tie as tie
 
-fill-requires : tie.Need-fill-requires
-fill-requires c κs = search needs
-
-sub-copy : tie.Need-sub-copy
-sub-copy c = search needs
-
-part-copy-start : tie.Need-part-copy-start
-part-copy-start c = search needs
-
-part-copy-end : tie.Need-part-copy-end
-part-copy-end c = search needs
-
-copy-requires : tie.Need-copy-requires
-copy-requires c κs = search needs
-
-add-b : tie.Need-add-b
-add-b c = search needs
-
-sub-fill : tie.Need-sub-fill
-sub-fill c = search needs
-
-part-fill-start : tie.Need-part-fill-start
-part-fill-start c = search needs
-
-part-fill-end : tie.Need-part-fill-end
-part-fill-end c = search needs
-
-fill-requires-2 : tie.Need-fill-requires-2
-fill-requires-2 c κs = search needs
-
-add-result : tie.Need-add-result
-add-result c = search needs
-
-same-length : tie.Need-same-length
-same-length c = search needs
-
 returns : tie.Need-returns
 returns c =
     let at-name = c .before .before .before .before .before .before in
@@ -70,16 +34,16 @@ pub put-started-spec : {M : Type 1} → statement M
 put-started-spec =
     tie.close
     (tie.spec
-    fill-requires
-    sub-copy
-    part-copy-start
-    part-copy-end
-    copy-requires
-    add-b
-    sub-fill
-    part-fill-start
-    part-fill-end
-    fill-requires-2
-    add-result
-    same-length
+    (λ c κs. search needs)
+    (λ c. search needs)
+    (λ c. search needs)
+    (λ c. search needs)
+    (λ c κs. search needs)
+    (λ c. search needs)
+    (λ c. search needs)
+    (λ c. search needs)
+    (λ c. search needs)
+    (λ c κs. search needs)
+    (λ c. search needs)
+    (λ c. search needs)
     returns)

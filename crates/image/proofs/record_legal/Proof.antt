@@ -11,9 +11,6 @@ use Rattle.image.proofs.Steps.{legal-vacant, legal-other, legal-short, 
 use Rattle.image.proofs.record_legal.Statement.{statement}
 use Rattle.image.proofs.record_legal.Tie as tie
 
-byte-at-requires : tie.Need-byte-at-requires
-byte-at-requires c κs = search needs
-
 returns : tie.Need-returns
 returns c =
     let a = c .before .before .before .args in
@@ -28,33 +25,12 @@ returns-2 c =
     let kind = c .before .before .byte-at .ensures in
     sym (legal-other (a .left) (a .at) im (λ z. c .before .if1 .left (kind ∙ z)) (λ z. c .if2 .taken (kind ∙ z)))
 
-add-if3 : tie.Need-add-if3
-add-if3 c = search needs
-
 returns-3 : tie.Need-returns-3
 returns-3 c =
     let a = c .before .before .before .before .before .args in
     let im : Text = a .image .now in
     let kind = c .before .before .before .byte-at .ensures in
     sym (legal-short (a .left) (a .at) im (sym kind ∙ c .before .if2 .left) (c .if3 .taken))
-
-entry-at-requires : tie.Need-entry-at-requires
-entry-at-requires c κs = search needs
-
-legal-requires : tie.Need-legal-requires
-legal-requires c κs = search needs
-
-add-part : tie.Need-add-part
-add-part c = search needs
-
-part-requires : tie.Need-part-requires
-part-requires c κs = search needs
-
-add-is-apart : tie.Need-add-is-apart
-add-is-apart c = search needs
-
-is-apart-requires : tie.Need-is-apart-requires
-is-apart-requires c κs = search needs
 
 returns-4 : tie.Need-returns-4
 returns-4 c =
@@ -86,16 +62,16 @@ pub record-legal-spec : {M : Type 1} → statement M
 record-legal-spec =
     tie.close
     (tie.spec
-    byte-at-requires
+    (λ c κs. search needs)
     returns
     returns-2
-    add-if3
+    (λ c. search needs)
     returns-3
-    entry-at-requires
-    legal-requires
-    add-part
-    part-requires
-    add-is-apart
-    is-apart-requires
+    (λ c κs. search needs)
+    (λ c κs. search needs)
+    (λ c. search needs)
+    (λ c κs. search needs)
+    (λ c. search needs)
+    (λ c κs. search needs)
     returns-4
     returns-5)

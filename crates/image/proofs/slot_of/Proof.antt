@@ -4,12 +4,9 @@ use Rattle.image.specs.Places.{slot-of}
 use Rattle.image.proofs.slot_of.Statement.{statement}
 use Rattle.image.proofs.slot_of.Tie as tie
 
-seek-requires : tie.Need-seek-requires
-seek-requires c κs = search needs
-
 returns : tie.Need-returns
 unfolding slot-of
 returns c = c .seek .ensures
 
 pub slot-of-spec : {M : Type 1} → statement M
-slot-of-spec = tie.close (tie.spec seek-requires returns)
+slot-of-spec = tie.close (tie.spec (λ c κs. search needs) returns)

@@ -14,12 +14,6 @@ returns c =
     let g = given-no-room (encode (started (a .own))) (a .out .now) (omega arith) in
     (g .buffer, g .size)
 
-put-started-requires : tie.Need-put-started-requires
-put-started-requires c κs = search needs
-
-same-length : tie.Need-same-length
-same-length c = search needs
-
 returns-2 : tie.Need-returns-2
 returns-2 c =
     let a = c .before .before .before .before .before .before .args in
@@ -28,4 +22,4 @@ returns-2 c =
     (g .buffer, g .size)
 
 pub start-spec : {M : Type 1} → statement M
-start-spec = tie.close (tie.spec returns put-started-requires same-length returns-2)
+start-spec = tie.close (tie.spec returns (λ c κs. search needs) (λ c. search needs) returns-2)

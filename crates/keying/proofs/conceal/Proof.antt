@@ -4,15 +4,9 @@ use Rattle.keying.specs.Iv.{conceal}
 use Rattle.keying.proofs.conceal.Statement.{statement}
 use Rattle.keying.proofs.conceal.Tie as tie
 
-last-key-requires : tie.Need-last-key-requires
-last-key-requires c κs = search needs
-
-encipher-requires : tie.Need-encipher-requires
-encipher-requires c κs = search needs
-
 returns : tie.Need-returns
 unfolding conceal
 returns c = cc
 
 pub conceal-spec : {M : Type 1} → statement M
-conceal-spec = tie.close (tie.spec last-key-requires encipher-requires returns)
+conceal-spec = tie.close (tie.spec (λ c κs. search needs) (λ c κs. search needs) returns)

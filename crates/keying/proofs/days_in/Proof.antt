@@ -5,9 +5,6 @@ use Rattle.keying.proofs.Calendar.{february, of-thirty, of-thirty-one}
 use Rattle.keying.proofs.days_in.Statement.{statement}
 use Rattle.keying.proofs.days_in.Tie as tie
 
-leap-requires : tie.Need-leap-requires
-leap-requires c κs = search needs
-
 returns : tie.Need-returns
 returns c = sym (february _ _ (c .before .before .match .keys1) (sym (c .before .leap .ensures) ∙ c .if1 .taken))
 
@@ -21,4 +18,4 @@ returns-4 : tie.Need-returns-4
 returns-4 c = sym (of-thirty-one (c .before .args .year) _ (c .match .rest .0 .1) (c .match .rest .1))
 
 pub days-in-spec : {M : Type 1} → statement M
-days-in-spec = tie.close (tie.spec leap-requires returns returns-2 returns-3 returns-4)
+days-in-spec = tie.close (tie.spec (λ c κs. search needs) returns returns-2 returns-3 returns-4)

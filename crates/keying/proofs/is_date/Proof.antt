@@ -29,9 +29,6 @@ time c =
     c .is-time .ensures
     ∙ same-three is-time (last .before .before .two4 .ensures) (last .before .two5 .ensures) (last .two6 .ensures)
 
-is-run-requires : tie.Need-is-run-requires
-is-run-requires c κs = search needs
-
 two-requires : tie.Need-two-requires
 two-requires c κs = (ran c, lit< tt)
 
@@ -41,9 +38,6 @@ two-requires-2 c κs = (ran (c .before), lit< tt)
 two-requires-3 : tie.Need-two-requires-3
 two-requires-3 c κs = (ran (c .before .before), lit< tt)
 
-is-day-requires : tie.Need-is-day-requires
-is-day-requires c κs = search needs
-
 two-requires-4 : tie.Need-two-requires-4
 two-requires-4 c κs = (ran (c .before .before .before .before .before), lit< tt)
 
@@ -52,9 +46,6 @@ two-requires-5 c κs = (ran (c .before .before .before .before .before .before),
 
 two-requires-6 : tie.Need-two-requires-6
 two-requires-6 c κs = (ran (c .before .before .before .before .before .before .before), lit< tt)
-
-is-time-requires : tie.Need-is-time-requires
-is-time-requires c κs = search needs
 
 returns : tie.Need-returns
 returns c =
@@ -76,15 +67,15 @@ pub is-date-spec : {M : Type 1} → statement M
 is-date-spec =
     tie.close
     (tie.spec
-    is-run-requires
+    (λ c κs. search needs)
     two-requires
     two-requires-2
     two-requires-3
-    is-day-requires
+    (λ c κs. search needs)
     two-requires-4
     two-requires-5
     two-requires-6
-    is-time-requires
+    (λ c κs. search needs)
     returns
     returns-2
     returns-3)

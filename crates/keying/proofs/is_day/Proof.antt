@@ -8,15 +8,6 @@ use Rattle.keying.proofs.Tests.{and-then, and-else}
 use Rattle.keying.proofs.is_day.Statement.{statement}
 use Rattle.keying.proofs.is_day.Tie as tie
 
-within-requires : tie.Need-within-requires
-within-requires c κs = search needs
-
-days-in-requires : tie.Need-days-in-requires
-days-in-requires c κs = search needs
-
-within-requires-2 : tie.Need-within-requires-2
-within-requires-2 c κs = search needs
-
 returns : tie.Need-returns
 unfolding is-day
 returns c =
@@ -30,4 +21,4 @@ returns-2 c = and-else _ _ (sym (c .before .within .ensures) ∙ c .if1 .left) (
 
 pub is-day-spec : {M : Type 1} → statement M
 is-day-spec =
-    tie.close (tie.spec within-requires days-in-requires within-requires-2 returns returns-2)
+    tie.close (tie.spec (λ c κs. search needs) (λ c κs. search needs) (λ c κs. search needs) returns returns-2)

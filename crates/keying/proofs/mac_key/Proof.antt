@@ -4,15 +4,6 @@ use Rattle.keying.specs.Mac.{mac-key}
 use Rattle.keying.proofs.mac_key.Statement.{statement}
 use Rattle.keying.proofs.mac_key.Tie as tie
 
-enum-told : tie.Need-enum-told
-enum-told c = search needs
-
-enum-known-keys : tie.Need-enum-known-keys
-enum-known-keys c = search needs
-
-enum-known-keys-2 : tie.Need-enum-known-keys-2
-enum-known-keys-2 c = search needs
-
 returns : tie.Need-returns
 unfolding mac-key
 returns c = cc
@@ -28,4 +19,4 @@ returns-3 c = cc
 pub mac-key-spec : {M : Type 1} → statement M
 mac-key-spec =
     tie.close
-    (tie.spec enum-told enum-known-keys enum-known-keys-2 returns returns-2 returns-3)
+    (tie.spec (λ c. search needs) (λ c. search needs) (λ c. search needs) returns returns-2 returns-3)

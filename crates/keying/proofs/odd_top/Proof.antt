@@ -8,21 +8,6 @@ use Rattle.keying.proofs.Ones.{odd-single, odd-pair}
 use Rattle.keying.proofs.odd_top.Statement.{statement}
 use Rattle.keying.proofs.odd_top.Tie as tie
 
-enum-known-top : tie.Need-enum-known-top
-enum-known-top c = search needs
-
-odd-requires : tie.Need-odd-requires
-odd-requires c κs = search needs
-
-enum-known-top-2 : tie.Need-enum-known-top-2
-enum-known-top-2 c = search needs
-
-odd-requires-2 : tie.Need-odd-requires-2
-odd-requires-2 c κs = search needs
-
-odd-requires-3 : tie.Need-odd-requires-3
-odd-requires-3 c κs = search needs
-
 returns : tie.Need-returns
 returns c = cc (odd-single (c .before .before .top .given .0 .0))
 
@@ -44,11 +29,11 @@ pub odd-top-spec : {M : Type 1} → statement M
 odd-top-spec =
     tie.close
     (tie.spec
-    enum-known-top
-    odd-requires
-    enum-known-top-2
-    odd-requires-2
-    odd-requires-3
+    (λ c. search needs)
+    (λ c κs. search needs)
+    (λ c. search needs)
+    (λ c κs. search needs)
+    (λ c κs. search needs)
     returns
     returns-2
     returns-3)

@@ -4,15 +4,9 @@ use Rattle.keying.specs.Iv.{reveal}
 use Rattle.keying.proofs.reveal.Statement.{statement}
 use Rattle.keying.proofs.reveal.Tie as tie
 
-last-key-requires : tie.Need-last-key-requires
-last-key-requires c κs = search needs
-
-decipher-requires : tie.Need-decipher-requires
-decipher-requires c κs = search needs
-
 returns : tie.Need-returns
 unfolding reveal
 returns c = cc
 
 pub reveal-spec : {M : Type 1} → statement M
-reveal-spec = tie.close (tie.spec last-key-requires decipher-requires returns)
+reveal-spec = tie.close (tie.spec (λ c κs. search needs) (λ c κs. search needs) returns)

@@ -4,12 +4,6 @@ use Rattle.keying.specs.Keys.{offset, working}
 use Rattle.keying.proofs.working.Statement.{statement}
 use Rattle.keying.proofs.working.Tie as tie
 
-enum-known-top : tie.Need-enum-known-top
-enum-known-top c = search needs
-
-enum-known-top-2 : tie.Need-enum-known-top-2
-enum-known-top-2 c = search needs
-
 returns : tie.Need-returns
 unfolding offset working
 returns c = cc
@@ -19,4 +13,4 @@ unfolding offset working
 returns-2 c = cc
 
 pub working-spec : {M : Type 1} → statement M
-working-spec = tie.close (tie.spec enum-known-top enum-known-top-2 returns returns-2)
+working-spec = tie.close (tie.spec (λ c. search needs) (λ c. search needs) returns returns-2)

@@ -14,30 +14,6 @@ shown : (c : tie.After-read) (m : Message) → c .read .result ≡ m
 shown c m e =
     sym (ap message-number (sym (c .read .ensures) ∙ e)) ∙ listed (read (c .before .before .args .line .now))
 
-read-requires : tie.Need-read-requires
-read-requires c κs = search needs
-
-enum-told : tie.Need-enum-told
-enum-told c = search needs
-
-enum-told-2 : tie.Need-enum-told-2
-enum-told-2 c = search needs
-
-enum-told-3 : tie.Need-enum-told-3
-enum-told-3 c = search needs
-
-enum-told-4 : tie.Need-enum-told-4
-enum-told-4 c = search needs
-
-enum-known-rest : tie.Need-enum-known-rest
-enum-known-rest c = search needs
-
-option-class-requires : tie.Need-option-class-requires
-option-class-requires c κs = search needs
-
-enum-told-5 : tie.Need-enum-told-5
-enum-told-5 c = search needs
-
 returns : tie.Need-returns
 returns c = shown (c .before .before) _ (c .enum-told .given .1)
 
@@ -60,14 +36,14 @@ pub class-of-spec : {M : Type 1} → statement M
 class-of-spec =
     tie.close
     (tie.spec
-    read-requires
-    enum-told
-    enum-told-2
-    enum-told-3
-    enum-told-4
-    enum-known-rest
-    option-class-requires
-    enum-told-5
+    (λ c κs. search needs)
+    (λ c. search needs)
+    (λ c. search needs)
+    (λ c. search needs)
+    (λ c. search needs)
+    (λ c. search needs)
+    (λ c κs. search needs)
+    (λ c. search needs)
     returns
     returns-2
     returns-3

@@ -9,9 +9,6 @@ use Rattle.lister.proofs.row_of.Statement.{statement}
 use Rattle.lister.proofs.row_of.Tie as tie
 
 -- src/main.rt:59:9
-class-of-requires : tie.Need-class-of-requires
-class-of-requires c κs = search needs
-
 -- src/main.rt:61:9
 returns : tie.Need-returns
 unfolding row-of
@@ -29,4 +26,4 @@ returns-2 c =
     cc
 
 pub row-of-spec : {M : Type 1} → statement M
-row-of-spec = tie.close (tie.spec class-of-requires returns returns-2)
+row-of-spec = tie.close (tie.spec (λ c κs. search needs) returns returns-2)

@@ -8,18 +8,12 @@ use borrow.Author.Needs.{needs}
 use Rattle.messages.proofs.write_esm.Statement.{statement}
 use Rattle.messages.proofs.write_esm.Tie as tie
 
-is-addressed-requires : tie.Need-is-addressed-requires
-is-addressed-requires c κs = search needs
-
 returns : tie.Need-returns
 unfolding esm-reading
 returns c =
     let a = c .before .before .before .before .before .args in
     not-addressed (esm-reading (a .rcv .now) (a .org .now) (a .letters) (a .counts)) (a .reply .now) refl
     (sym (c .before .is-addressed .ensures) ∙ not-true _ (c .if1 .taken))
-
-is-error-requires : tie.Need-is-error-requires
-is-error-requires c κs = search needs
 
 returns-2 : tie.Need-returns-2
 unfolding esm-reading
@@ -34,9 +28,6 @@ put-esm-requires c κs =
     let v = c .before in
     let a = v .before .before .before .before .before .before .before .args in
     error-counts (a .letters) (a .counts) (sym (v .before .is-error .ensures) ∙ not-false _ (v .if2 .left))
-
-same-length : tie.Need-same-length
-same-length c = search needs
 
 returns-3 : tie.Need-returns-3
 unfolding esm-reading
@@ -53,10 +44,10 @@ pub write-esm-spec : {M : Type 1} → statement M
 write-esm-spec =
     tie.close
     (tie.spec
-    is-addressed-requires
+    (λ c κs. search needs)
     returns
-    is-error-requires
+    (λ c κs. search needs)
     returns-2
     put-esm-requires
-    same-length
+    (λ c. search needs)
     returns-3)

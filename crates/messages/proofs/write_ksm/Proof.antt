@@ -10,9 +10,6 @@ use borrow.Author.Needs.{needs}
 use Rattle.messages.proofs.write_ksm.Statement.{statement}
 use Rattle.messages.proofs.write_ksm.Tie as tie
 
-is-addressed-requires : tie.Need-is-addressed-requires
-is-addressed-requires c κs = search needs
-
 returns : tie.Need-returns
 unfolding ksm-reading
 returns c =
@@ -20,9 +17,6 @@ returns c =
     let q = ksm-reading (a .rcv .now) (a .org .now) (a .keys) (a .idk1 .now) (a .idk2 .now) (a .second-idk1 .now)
     (a .second-idk2 .now) (a .vector) (a .edk .now) (a .ctp) (a .mac-key) in
     not-addressed q (a .reply .now) refl (sym (c .before .is-addressed .ensures) ∙ not-true _ (c .if1 .taken))
-
-are-keys-requires : tie.Need-are-keys-requires
-are-keys-requires c κs = search needs
 
 returns-2 : tie.Need-returns-2
 unfolding ksm-reading
@@ -34,9 +28,6 @@ returns-2 c =
     (a .second-idk2 .now) (a .vector) (a .edk .now) (a .ctp) (a .mac-key) in
     let k = sym (c .before .are-keys .ensures) ∙ not-true _ (c .if2 .taken) in
     not-legal q (a .reply .now) refl (l ∙ ap (λ (b : Bool). b && dated-legal (a .edk .now) (a .ctp)) k)
-
-is-dated-requires : tie.Need-is-dated-requires
-is-dated-requires c κs = search needs
 
 returns-3 : tie.Need-returns-3
 unfolding ksm-reading
@@ -68,9 +59,6 @@ put-ksm-requires c κs =
       fits q (a .reply .now) refl h (l ∙ ap (λ (b : Bool). b && dated-legal (a .edk .now) (a .ctp)) k ∙ d),
     )
 
-same-length : tie.Need-same-length
-same-length c = search needs
-
 returns-4 : tie.Need-returns-4
 unfolding ksm-reading
 returns-4 c =
@@ -92,12 +80,12 @@ pub write-ksm-spec : {M : Type 1} → statement M
 write-ksm-spec =
     tie.close
     (tie.spec
-    is-addressed-requires
+    (λ c κs. search needs)
     returns
-    are-keys-requires
+    (λ c κs. search needs)
     returns-2
-    is-dated-requires
+    (λ c κs. search needs)
     returns-3
     put-ksm-requires
-    same-length
+    (λ c. search needs)
     returns-4)

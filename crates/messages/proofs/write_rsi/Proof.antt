@@ -9,9 +9,6 @@ use borrow.Author.Needs.{needs}
 use Rattle.messages.proofs.write_rsi.Statement.{statement}
 use Rattle.messages.proofs.write_rsi.Tie as tie
 
-is-addressed-requires : tie.Need-is-addressed-requires
-is-addressed-requires c κs = search needs
-
 returns : tie.Need-returns
 unfolding rsi-reading
 returns c =
@@ -26,12 +23,6 @@ returns-2 c =
     not-legal (rsi-reading (a .rcv .now) (a .org .now) (a .service)) (a .reply .now) refl
     (rsi-legal (a .rcv .now) (a .org .now) (a .service) ∙ le-ltb (a .service) 12 (omega arith))
 
-put-rsi-requires : tie.Need-put-rsi-requires
-put-rsi-requires c κs = search needs
-
-same-length : tie.Need-same-length
-same-length c = search needs
-
 returns-3 : tie.Need-returns-3
 unfolding rsi-reading
 returns-3 c =
@@ -45,4 +36,4 @@ returns-3 c =
 pub write-rsi-spec : {M : Type 1} → statement M
 write-rsi-spec =
     tie.close
-    (tie.spec is-addressed-requires returns returns-2 put-rsi-requires same-length returns-3)
+    (tie.spec (λ c κs. search needs) returns returns-2 (λ c κs. search needs) (λ c. search needs) returns-3)

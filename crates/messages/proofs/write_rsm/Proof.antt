@@ -8,9 +8,6 @@ use borrow.Author.Needs.{needs}
 use Rattle.messages.proofs.write_rsm.Statement.{statement}
 use Rattle.messages.proofs.write_rsm.Tie as tie
 
-is-addressed-requires : tie.Need-is-addressed-requires
-is-addressed-requires c κs = search needs
-
 returns : tie.Need-returns
 unfolding rsm-reading
 returns c =
@@ -26,9 +23,6 @@ put-rsm-requires c κs =
     (sym (c .before .before .is-addressed .ensures) ∙ not-false _ (c .before .if1 .left))
     (rsm-legal (a .rcv .now) (a .org .now) (a .mac-key))
 
-same-length : tie.Need-same-length
-same-length c = search needs
-
 returns-2 : tie.Need-returns-2
 unfolding rsm-reading
 returns-2 c =
@@ -40,4 +34,4 @@ returns-2 c =
 
 pub write-rsm-spec : {M : Type 1} → statement M
 write-rsm-spec =
-    tie.close (tie.spec is-addressed-requires returns put-rsm-requires same-length returns-2)
+    tie.close (tie.spec (λ c κs. search needs) returns put-rsm-requires (λ c. search needs) returns-2)

@@ -12,9 +12,6 @@ use borrow.Author.Needs.{needs}
 use Rattle.octets.proofs.bare.Statement.{statement}
 use Rattle.octets.proofs.bare.Tie as tie
 
-until-requires : tie.Need-until-requires
-until-requires c κs = search needs
-
 slice-aggregate-result : tie.Need-slice-aggregate-result
 slice-aggregate-result c =
     let s = c .before .before .before .args .s .now in
@@ -26,4 +23,4 @@ returns c =
     ap (λ (n : ℕ). take n s) (c .before .until .ensures ∙ zero-add (before blank s))
 
 pub bare-spec : {M : Type 1} → statement M
-bare-spec = tie.close (tie.spec until-requires slice-aggregate-result returns)
+bare-spec = tie.close (tie.spec (λ c κs. search needs) slice-aggregate-result returns)

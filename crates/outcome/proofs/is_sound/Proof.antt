@@ -8,12 +8,6 @@ use borrow.Author.Needs.{needs}
 use Rattle.outcome.proofs.is_sound.Statement.{statement}
 use Rattle.outcome.proofs.is_sound.Tie as tie
 
-is-name-requires : tie.Need-is-name-requires
-is-name-requires c κs = search needs
-
-legal-requires : tie.Need-legal-requires
-legal-requires c κs = search needs
-
 returns : tie.Need-returns
 unfolding sound
 returns c =
@@ -29,4 +23,4 @@ returns-2 c =
     c .if1 .left ∙ ap (λ (b : Bool). b && legal (a .e)) (sym named)
 
 pub is-sound-spec : {M : Type 1} → statement M
-is-sound-spec = tie.close (tie.spec is-name-requires legal-requires returns returns-2)
+is-sound-spec = tie.close (tie.spec (λ c κs. search needs) (λ c κs. search needs) returns returns-2)

@@ -4,12 +4,9 @@ use Rattle.partner.specs.Entry.{empty}
 use Rattle.partner.proofs.empty.Statement.{statement}
 use Rattle.partner.proofs.empty.Tie as tie
 
-no-keys-requires : tie.Need-no-keys-requires
-no-keys-requires c κs = search needs
-
 returns : tie.Need-returns
 unfolding empty
 returns c = cc
 
 pub empty-spec : {M : Type 1} → statement M
-empty-spec = tie.close (tie.spec no-keys-requires returns)
+empty-spec = tie.close (tie.spec (λ c κs. search needs) returns)

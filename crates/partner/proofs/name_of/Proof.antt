@@ -6,12 +6,6 @@ use Rattle.partner.proofs.Naming.{over-copies, name-as}
 use Rattle.partner.proofs.name_of.Statement.{statement}
 use Rattle.partner.proofs.name_of.Tie as tie
 
-slice-aggregate-copy : tie.Need-slice-aggregate-copy
-slice-aggregate-copy c = search needs
-
-copy-requires : tie.Need-copy-requires
-copy-requires c κs = search needs
-
 returns : tie.Need-returns
 unfolding filled
 returns c =
@@ -19,4 +13,4 @@ returns c =
     name-as (c .before .copy .ensures .0 ∙ over-copies w 16 32)
 
 pub name-of-spec : {M : Type 1} → statement M
-name-of-spec = tie.close (tie.spec slice-aggregate-copy copy-requires returns)
+name-of-spec = tie.close (tie.spec (λ c. search needs) (λ c κs. search needs) returns)

@@ -13,57 +13,6 @@ use Rattle.reader.proofs.body_at.Tie as tie
 of-class : (h : Head) (u : Text) {c k : Class} → c ≡ k → body k h u ≡ body c h u
 of-class h u e = ap (λ (k : Class). body k h u) (sym e)
 
-enum-told : tie.Need-enum-told
-enum-told c = search needs
-
-rsi-or-option-requires : tie.Need-rsi-or-option-requires
-rsi-or-option-requires c κs = search needs
-
-enum-told-2 : tie.Need-enum-told-2
-enum-told-2 c = search needs
-
-ksm-or-option-requires : tie.Need-ksm-or-option-requires
-ksm-or-option-requires c κs = search needs
-
-enum-told-3 : tie.Need-enum-told-3
-enum-told-3 c = search needs
-
-rsm-at-requires : tie.Need-rsm-at-requires
-rsm-at-requires c κs = search needs
-
-enum-told-4 : tie.Need-enum-told-4
-enum-told-4 c = search needs
-
-esm-at-requires : tie.Need-esm-at-requires
-esm-at-requires c κs = search needs
-
-enum-told-5 : tie.Need-enum-told-5
-enum-told-5 c = search needs
-
-rest-at-requires : tie.Need-rest-at-requires
-rest-at-requires c κs = search needs
-
-enum-told-6 : tie.Need-enum-told-6
-enum-told-6 c = search needs
-
-rest-at-requires-2 : tie.Need-rest-at-requires-2
-rest-at-requires-2 c κs = search needs
-
-enum-told-7 : tie.Need-enum-told-7
-enum-told-7 c = search needs
-
-rest-at-requires-3 : tie.Need-rest-at-requires-3
-rest-at-requires-3 c κs = search needs
-
-enum-told-8 : tie.Need-enum-told-8
-enum-told-8 c = search needs
-
-rest-at-requires-4 : tie.Need-rest-at-requires-4
-rest-at-requires-4 c κs = search needs
-
-enum-told-9 : tie.Need-enum-told-9
-enum-told-9 c = search needs
-
 returns : tie.Need-returns
 returns c =
     let a = c .before .before .before .before .args in
@@ -122,23 +71,23 @@ pub body-at-spec : {M : Type 1} → statement M
 body-at-spec =
     tie.close
     (tie.spec
-    enum-told
-    rsi-or-option-requires
-    enum-told-2
-    ksm-or-option-requires
-    enum-told-3
-    rsm-at-requires
-    enum-told-4
-    esm-at-requires
-    enum-told-5
-    rest-at-requires
-    enum-told-6
-    rest-at-requires-2
-    enum-told-7
-    rest-at-requires-3
-    enum-told-8
-    rest-at-requires-4
-    enum-told-9
+    (λ c. search needs)
+    (λ c κs. search needs)
+    (λ c. search needs)
+    (λ c κs. search needs)
+    (λ c. search needs)
+    (λ c κs. search needs)
+    (λ c. search needs)
+    (λ c κs. search needs)
+    (λ c. search needs)
+    (λ c κs. search needs)
+    (λ c. search needs)
+    (λ c κs. search needs)
+    (λ c. search needs)
+    (λ c κs. search needs)
+    (λ c. search needs)
+    (λ c κs. search needs)
+    (λ c. search needs)
     returns
     returns-2
     returns-3

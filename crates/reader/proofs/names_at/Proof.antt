@@ -22,18 +22,6 @@ rcv k =
     piece-at is-name (tag RCV) (a .text .now) (a .at) (k .before .rcv .given .0 .0) _
     (sym (k .before .before .before .run-field .ensures) ∙ k .before .rcv .given .1) (omega arith)
 
-slice-aggregate-run-field : tie.Need-slice-aggregate-run-field
-slice-aggregate-run-field c = search needs
-
-run-field-requires : tie.Need-run-field-requires
-run-field-requires c κs = search needs
-
-enum-known-rcv : tie.Need-enum-known-rcv
-enum-known-rcv c = search needs
-
-enum-told : tie.Need-enum-told
-enum-told c = search needs
-
 returns : tie.Need-returns
 returns c =
     let a = c .before .before .before .before .before .args in
@@ -46,18 +34,6 @@ add-run-field c = omega (arith, rcv c .reads .within)
 
 add-run-field-2 : tie.Need-add-run-field-2
 add-run-field-2 c = omega (arith, rcv c .reads .within)
-
-slice-aggregate-run-field-2 : tie.Need-slice-aggregate-run-field-2
-slice-aggregate-run-field-2 c = search needs
-
-run-field-requires-2 : tie.Need-run-field-requires-2
-run-field-requires-2 c κs = search needs
-
-enum-known-org : tie.Need-enum-known-org
-enum-known-org c = search needs
-
-enum-told-2 : tie.Need-enum-told-2
-enum-told-2 c = search needs
 
 returns-2 : tie.Need-returns-2
 returns-2 c =
@@ -82,16 +58,16 @@ pub names-at-spec : {M : Type 1} → statement M
 names-at-spec =
     tie.close
     (tie.spec
-    slice-aggregate-run-field
-    run-field-requires
-    enum-known-rcv
-    enum-told
+    (λ c. search needs)
+    (λ c κs. search needs)
+    (λ c. search needs)
+    (λ c. search needs)
     returns
     add-run-field
     add-run-field-2
-    slice-aggregate-run-field-2
-    run-field-requires-2
-    enum-known-org
-    enum-told-2
+    (λ c. search needs)
+    (λ c κs. search needs)
+    (λ c. search needs)
+    (λ c. search needs)
     returns-2
     returns-3)

@@ -22,28 +22,10 @@ named n =
 returns : tie.Need-returns
 returns c = sym (read-long (c .before .before .args .text .now) (omega arith))
 
-slice-aggregate-starts : tie.Need-slice-aggregate-starts
-slice-aggregate-starts c = search needs
-
-starts-requires : tie.Need-starts-requires
-starts-requires c κs = search needs
-
 returns-2 : tie.Need-returns-2
 returns-2 c =
     let s = c .before .before .before .before .before .args .text .now in
     sym (read-front s (sym (c .before .starts .ensures) ∙ not-true _ (c .if2 .taken)))
-
-class-field-requires : tie.Need-class-field-requires
-class-field-requires c κs = search needs
-
-names-at-requires : tie.Need-names-at-requires
-names-at-requires c κs = search needs
-
-enum-known-head : tie.Need-enum-known-head
-enum-known-head c = search needs
-
-enum-told : tie.Need-enum-told
-enum-told c = search needs
 
 returns-3 : tie.Need-returns-3
 returns-3 c =
@@ -58,9 +40,6 @@ add-body-at c = omega (arith, named (c .before) .reads .within)
 
 add-body-at-2 : tie.Need-add-body-at-2
 add-body-at-2 c = omega (arith, named (c .before .before) .reads .within)
-
-body-at-requires : tie.Need-body-at-requires
-body-at-requires c κs = search needs
 
 returns-4 : tie.Need-returns-4
 returns-4 c =
@@ -80,15 +59,15 @@ read-spec =
     tie.close
     (tie.spec
     returns
-    slice-aggregate-starts
-    starts-requires
+    (λ c. search needs)
+    (λ c κs. search needs)
     returns-2
-    class-field-requires
-    names-at-requires
-    enum-known-head
-    enum-told
+    (λ c κs. search needs)
+    (λ c κs. search needs)
+    (λ c. search needs)
+    (λ c. search needs)
     returns-3
     add-body-at
     add-body-at-2
-    body-at-requires
+    (λ c κs. search needs)
     returns-4)

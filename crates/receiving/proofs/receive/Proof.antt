@@ -16,12 +16,6 @@ is-sound : (c : tie.Else1)
     sound (a .own .now) (a .e) ≡ true
 is-sound c = sym (c .before .is-sound .ensures) ∙ not-false _ (c .if1 .left)
 
-is-sound-requires : tie.Need-is-sound-requires
-is-sound-requires c κs = search needs
-
-refused-requires : tie.Need-refused-requires
-refused-requires c κs = search needs
-
 returns : tie.Need-returns
 returns c =
     let n = c .before in
@@ -29,9 +23,6 @@ returns c =
     let t = unsound (a .own .now) (a .e) (length (a .reply .now)) (a .text .now)
     (sym (n .before .is-sound .ensures) ∙ not-true _ (n .if1 .taken)) in
     (c .refused .ensures ∙ ap turned t, unreplied _ _ (a .reply .now) refl t)
-
-refused-requires-2 : tie.Need-refused-requires-2
-refused-requires-2 c κs = search needs
 
 returns-2 : tie.Need-returns-2
 returns-2 c =
@@ -42,9 +33,6 @@ returns-2 c =
 
 by-class-requires : tie.Need-by-class-requires
 by-class-requires c κs = record { lawful = is-sound (c .before .before); room = c .before .if2 .left }
-
-same-length : tie.Need-same-length
-same-length c = search needs
 
 returns-3 : tie.Need-returns-3
 returns-3 c =
@@ -59,11 +47,11 @@ pub receive-spec : {M : Type 1} → statement M
 receive-spec =
     tie.close
     (tie.spec
-    is-sound-requires
-    refused-requires
+    (λ c κs. search needs)
+    (λ c κs. search needs)
     returns
-    refused-requires-2
+    (λ c κs. search needs)
     returns-2
     by-class-requires
-    same-length
+    (λ c. search needs)
     returns-3)

@@ -6,12 +6,6 @@ use Rattle.sight.proofs.Seeing.{ends-found, ends-without}
 use Rattle.sight.proofs.concluded.Statement.{statement}
 use Rattle.sight.proofs.concluded.Tie as tie
 
-both-requires : tie.Need-both-requires
-both-requires c κs = search needs
-
-both-requires-2 : tie.Need-both-requires-2
-both-requires-2 c κs = search needs
-
 returns : tie.Need-returns
 returns c =
     let a = c .before .before .before .args in
@@ -25,4 +19,4 @@ returns-2 c =
     (c .before .both2 .ensures ∙ ap (λ (b : Bool). b && a .aim .ours) (c .before .before .both .ensures)) (c .if1 .left)
 
 pub concluded-spec : {M : Type 1} → statement M
-concluded-spec = tie.close (tie.spec both-requires both-requires-2 returns returns-2)
+concluded-spec = tie.close (tie.spec (λ c κs. search needs) (λ c κs. search needs) returns returns-2)

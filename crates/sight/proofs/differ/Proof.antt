@@ -14,9 +14,6 @@ returns c =
     let h : a .all ≡ false = not-true (a .all) (c .if1 .taken) in
     rw h
 
-is-empty-requires : tie.Need-is-empty-requires
-is-empty-requires c κs = search needs
-
 returns-2 : tie.Need-returns-2
 unfolding differ
 returns-2 c =
@@ -24,9 +21,6 @@ returns-2 c =
     let h : a .all ≡ true = not-false (a .all) (c .before .before .if1 .left) in
     let k : is-empty (a .later) ≡ true = sym (c .before .is-empty .ensures) ∙ c .if2 .taken in
     rw (h, k)
-
-is-named-requires : tie.Need-is-named-requires
-is-named-requires c κs = search needs
 
 returns-3 : tie.Need-returns-3
 unfolding differ
@@ -37,4 +31,4 @@ returns-3 c =
     rw (h, k) (ap not (c .is-named .ensures))
 
 pub differ-spec : {M : Type 1} → statement M
-differ-spec = tie.close (tie.spec returns is-empty-requires returns-2 is-named-requires returns-3)
+differ-spec = tie.close (tie.spec returns (λ c κs. search needs) returns-2 (λ c κs. search needs) returns-3)

@@ -9,21 +9,6 @@ use Rattle.partner.specs.Table.{is-empty}
 use Rattle.sight.proofs.is_empty.Statement.{statement}
 use Rattle.sight.proofs.is_empty.Tie as tie
 
-slice-aggregate-put-entry : tie.Need-slice-aggregate-put-entry
-slice-aggregate-put-entry c = search needs
-
-put-entry-requires : tie.Need-put-entry-requires
-put-entry-requires c κs = search needs
-
-slice-aggregate-same : tie.Need-slice-aggregate-same
-slice-aggregate-same c = search needs
-
-slice-aggregate-same-2 : tie.Need-slice-aggregate-same-2
-slice-aggregate-same-2 c = search needs
-
-same-requires : tie.Need-same-requires
-same-requires c κs = search needs
-
 returns : tie.Need-returns
 unfolding is-empty put-entry
 returns c =
@@ -34,9 +19,9 @@ pub is-empty-spec : {M : Type 1} → statement M
 is-empty-spec =
     tie.close
     (tie.spec
-    slice-aggregate-put-entry
-    put-entry-requires
-    slice-aggregate-same
-    slice-aggregate-same-2
-    same-requires
+    (λ c. search needs)
+    (λ c κs. search needs)
+    (λ c. search needs)
+    (λ c. search needs)
+    (λ c κs. search needs)
     returns)

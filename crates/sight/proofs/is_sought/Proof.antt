@@ -8,18 +8,12 @@ use Rattle.sight.specs.Sight.{is-sought}
 use Rattle.sight.proofs.is_sought.Statement.{statement}
 use Rattle.sight.proofs.is_sought.Tie as tie
 
-is-empty-requires : tie.Need-is-empty-requires
-is-empty-requires c κs = search needs
-
 returns : tie.Need-returns
 unfolding is-sought
 returns c =
     let a = c .before .before .args in
     let h : a .aim .vacant ≡ true = c .before .if1 .taken in
     rw h (c .is-empty .ensures)
-
-is-theirs-requires : tie.Need-is-theirs-requires
-is-theirs-requires c κs = search needs
 
 returns-2 : tie.Need-returns-2
 unfolding is-sought
@@ -28,4 +22,4 @@ returns-2 c =
     c .is-theirs .ensures ∙ sym (ap (λ (b : Bool). cond b (is-empty (a .e)) (is-theirs (a .aim) (a .e))) (c .before .if1 .left))
 
 pub is-sought-spec : {M : Type 1} → statement M
-is-sought-spec = tie.close (tie.spec is-empty-requires returns is-theirs-requires returns-2)
+is-sought-spec = tie.close (tie.spec (λ c κs. search needs) returns (λ c κs. search needs) returns-2)

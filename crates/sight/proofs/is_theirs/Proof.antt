@@ -6,9 +6,6 @@ use Rattle.sight.specs.Sight.{is-theirs}
 use Rattle.sight.proofs.is_theirs.Statement.{statement}
 use Rattle.sight.proofs.is_theirs.Tie as tie
 
-is-named-requires : tie.Need-is-named-requires
-is-named-requires c κs = search needs
-
 returns : tie.Need-returns
 unfolding is-theirs
 returns c =
@@ -24,4 +21,4 @@ returns-2 c =
     rw h
 
 pub is-theirs-spec : {M : Type 1} → statement M
-is-theirs-spec = tie.close (tie.spec is-named-requires returns returns-2)
+is-theirs-spec = tie.close (tie.spec (λ c κs. search needs) returns returns-2)

@@ -6,27 +6,12 @@ use Rattle.sight.proofs.Seeing.{found-before, found-here, not-found}
 use Rattle.sight.proofs.see.Statement.{statement}
 use Rattle.sight.proofs.see.Tie as tie
 
-slot-legal-requires : tie.Need-slot-legal-requires
-slot-legal-requires c κs = search needs
-
-both-requires : tie.Need-both-requires
-both-requires c κs = search needs
-
-is-theirs-requires : tie.Need-is-theirs-requires
-is-theirs-requires c κs = search needs
-
-either-requires : tie.Need-either-requires
-either-requires c κs = search needs
-
 returns : tie.Need-returns
 returns c =
     let a = c .before .before .before .before .before .args in
     found-before (a .aim) (a .seen) (a .at) (a .e) (a .apart) _ _
     (c .before .before .before .both .ensures ∙ ap (λ (b : Bool). a .seen .legal && b) (c .before .before .before .before .slot-legal .ensures))
     (c .before .either .ensures ∙ ap (λ (b : Bool). a .seen .taken || b) (c .before .before .is-theirs .ensures)) (c .if1 .taken)
-
-is-sought-requires : tie.Need-is-sought-requires
-is-sought-requires c κs = search needs
 
 returns-2 : tie.Need-returns-2
 returns-2 c =
@@ -46,11 +31,11 @@ pub see-spec : {M : Type 1} → statement M
 see-spec =
     tie.close
     (tie.spec
-    slot-legal-requires
-    both-requires
-    is-theirs-requires
-    either-requires
+    (λ c κs. search needs)
+    (λ c κs. search needs)
+    (λ c κs. search needs)
+    (λ c κs. search needs)
     returns
-    is-sought-requires
+    (λ c κs. search needs)
     returns-2
     returns-3)

@@ -9,9 +9,6 @@ use Rattle.sight.specs.Sight.{slot-legal}
 use Rattle.sight.proofs.slot_legal.Statement.{statement}
 use Rattle.sight.proofs.slot_legal.Tie as tie
 
-is-empty-requires : tie.Need-is-empty-requires
-is-empty-requires c κs = search needs
-
 returns : tie.Need-returns
 unfolding slot-legal
 returns c =
@@ -27,9 +24,6 @@ returns-2 c =
     let h : a .apart ≡ false = not-true (a .apart) (c .if2 .taken) in
     rw (k, h)
 
-is-named-requires : tie.Need-is-named-requires
-is-named-requires c κs = search needs
-
 returns-3 : tie.Need-returns-3
 unfolding slot-legal
 returns-3 c =
@@ -38,9 +32,6 @@ returns-3 c =
     let h : a .apart ≡ true = not-false (a .apart) (c .before .before .if2 .left) in
     let n : same (a .e .identity .bytes) (a .aim .own .bytes) ≡ true = sym (c .before .is-named .ensures) ∙ c .if3 .taken in
     rw (k, h, n)
-
-legal-requires : tie.Need-legal-requires
-legal-requires c κs = search needs
 
 returns-4 : tie.Need-returns-4
 unfolding slot-legal
@@ -55,10 +46,10 @@ pub slot-legal-spec : {M : Type 1} → statement M
 slot-legal-spec =
     tie.close
     (tie.spec
-    is-empty-requires
+    (λ c κs. search needs)
     returns
     returns-2
-    is-named-requires
+    (λ c κs. search needs)
     returns-3
-    legal-requires
+    (λ c κs. search needs)
     returns-4)

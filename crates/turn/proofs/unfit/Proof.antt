@@ -15,13 +15,10 @@ returns-2 c =
     let a = c .before .before .before .args in
     taken-unfit (a .aim) (a .seen) (c .before .if1 .left) (c .if2 .taken)
 
-same-requires : tie.Need-same-requires
-same-requires c κs = search needs
-
 returns-3 : tie.Need-returns-3
 returns-3 c =
     let a = c .before .before .before .before .before .before .before .before .before .before .before .before .args in
     c .same .ensures ∙ own-unfit (a .aim) (a .seen) (c .before .before .before .before .before .before .before .before .before .before .if1 .left) (c .before .before .before .before .before .before .before .before .before .if2 .left)
 
 pub unfit-spec : {M : Type 1} → statement M
-unfit-spec = tie.close (tie.spec returns returns-2 same-requires returns-3)
+unfit-spec = tie.close (tie.spec returns returns-2 (λ c κs. search needs) returns-3)

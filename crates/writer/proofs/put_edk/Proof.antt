@@ -17,15 +17,6 @@ returns c =
     let e = nonempty-none (a .edk .now) (omega arith) in
     laid-as (ap (λ (o : Option Text). maybe-print (field EDK) o) (sym e)) (laid-nothing (a .rest .now))
 
-slice-aggregate-put-field : tie.Need-slice-aggregate-put-field
-slice-aggregate-put-field c = search needs
-
-put-field-requires : tie.Need-put-field-requires
-put-field-requires c κs = search needs
-
-same-length : tie.Need-same-length
-same-length c = search needs
-
 returns-2 : tie.Need-returns-2
 returns-2 c =
     let w = c .before .before in
@@ -34,4 +25,4 @@ returns-2 c =
 
 pub put-edk-spec : {M : Type 1} → statement M
 put-edk-spec =
-    tie.close (tie.spec returns slice-aggregate-put-field put-field-requires same-length returns-2)
+    tie.close (tie.spec returns (λ c. search needs) (λ c κs. search needs) (λ c. search needs) returns-2)

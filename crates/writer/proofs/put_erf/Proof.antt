@@ -7,48 +7,6 @@ use borrow.Author.Needs.{needs}
 use Rattle.writer.proofs.put_erf.Statement.{statement}
 use Rattle.writer.proofs.put_erf.Tie as tie
 
-slice-aggregate-put-text : tie.Need-slice-aggregate-put-text
-slice-aggregate-put-text c = search needs
-
-put-text-requires : tie.Need-put-text-requires
-put-text-requires c κs = search needs
-
-sub-put-letters : tie.Need-sub-put-letters
-sub-put-letters c = search needs
-
-part-put-letters-start : tie.Need-part-put-letters-start
-part-put-letters-start c = search needs
-
-part-put-letters-end : tie.Need-part-put-letters-end
-part-put-letters-end c = search needs
-
-put-letters-requires : tie.Need-put-letters-requires
-put-letters-requires c κs = search needs
-
-add-b : tie.Need-add-b
-add-b c = search needs
-
-sub-put-text : tie.Need-sub-put-text
-sub-put-text c = search needs
-
-part-put-text-start : tie.Need-part-put-text-start
-part-put-text-start c = search needs
-
-part-put-text-end : tie.Need-part-put-text-end
-part-put-text-end c = search needs
-
-slice-aggregate-put-text-2 : tie.Need-slice-aggregate-put-text-2
-slice-aggregate-put-text-2 c = search needs
-
-put-text-requires-2 : tie.Need-put-text-requires-2
-put-text-requires-2 c κs = search needs
-
-add-result : tie.Need-add-result
-add-result c = search needs
-
-same-length : tie.Need-same-length
-same-length c = search needs
-
 returns : tie.Need-returns
 returns c =
     let w = c .before .before in
@@ -62,18 +20,18 @@ pub put-erf-spec : {M : Type 1} → statement M
 put-erf-spec =
     tie.close
     (tie.spec
-    slice-aggregate-put-text
-    put-text-requires
-    sub-put-letters
-    part-put-letters-start
-    part-put-letters-end
-    put-letters-requires
-    add-b
-    sub-put-text
-    part-put-text-start
-    part-put-text-end
-    slice-aggregate-put-text-2
-    put-text-requires-2
-    add-result
-    same-length
+    (λ c. search needs)
+    (λ c κs. search needs)
+    (λ c. search needs)
+    (λ c. search needs)
+    (λ c. search needs)
+    (λ c κs. search needs)
+    (λ c. search needs)
+    (λ c. search needs)
+    (λ c. search needs)
+    (λ c. search needs)
+    (λ c. search needs)
+    (λ c κs. search needs)
+    (λ c. search needs)
+    (λ c. search needs)
     returns)

@@ -6,12 +6,6 @@ use borrow.Author.Needs.{needs}
 use Rattle.building.proofs.message.sealed_keys.Statement.{statement}
 use Rattle.building.proofs.message.sealed_keys.Tie as tie
 
-sealed-key-requires : tie.Need-sealed-key-requires
-sealed-key-requires c κs = search needs
-
-sealed-key-requires-2 : tie.Need-sealed-key-requires-2
-sealed-key-requires-2 c κs = search needs
-
 returns : tie.Need-returns
 unfolding keys-for if_then_else_
 returns c = rw (eq-eqb _ 2 (c .before .if1 .taken)) (cc)
@@ -21,4 +15,4 @@ unfolding keys-for if_then_else_
 returns-2 c = rw (ne-eqb _ 2 (c .if1 .left)) (cc)
 
 pub sealed-keys-spec : {M : Type 1} → statement M
-sealed-keys-spec = tie.close (tie.spec sealed-key-requires sealed-key-requires-2 returns returns-2)
+sealed-keys-spec = tie.close (tie.spec (λ c κs. search needs) (λ c κs. search needs) returns returns-2)

@@ -10,15 +10,6 @@ returns : tie.Need-returns
 unfolding vector-for if_then_else_
 returns c = rw (eq-eqb _ 1 (c .if1 .taken))
 
-outgoing-requires : tie.Need-outgoing-requires
-outgoing-requires c κs = search needs
-
-data-keys-requires : tie.Need-data-keys-requires
-data-keys-requires c κs = search needs
-
-conceal-requires : tie.Need-conceal-requires
-conceal-requires c κs = search needs
-
 returns-2 : tie.Need-returns-2
 unfolding vector-for if_then_else_
 returns-2 c =
@@ -32,4 +23,4 @@ returns-3 c = rw (ne-eqb _ 1 (c .before .before .if1 .left), ne-eqb _ 2 (c .if2 
 pub vector-spec : {M : Type 1} → statement M
 vector-spec =
     tie.close
-    (tie.spec returns outgoing-requires data-keys-requires conceal-requires returns-2 returns-3)
+    (tie.spec returns (λ c κs. search needs) (λ c κs. search needs) (λ c κs. search needs) returns-2 returns-3)

@@ -11,63 +11,6 @@ use borrow.Author.Needs.{needs}
 use Rattle.building.proofs.message.write.Statement.{statement}
 use Rattle.building.proofs.message.write.Tie as tie
 
-outgoing-requires : tie.Need-outgoing-requires
-outgoing-requires c κs = search needs
-
-data-keys-requires : tie.Need-data-keys-requires
-data-keys-requires c κs = search needs
-
-mac-key-requires : tie.Need-mac-key-requires
-mac-key-requires c κs = search needs
-
-bare-requires : tie.Need-bare-requires
-bare-requires c κs = search needs
-
-sealed-keys-requires : tie.Need-sealed-keys-requires
-sealed-keys-requires c κs = search needs
-
-wants-idk1-requires : tie.Need-wants-idk1-requires
-wants-idk1-requires c κs = search needs
-
-written-requires : tie.Need-written-requires
-written-requires c κs = search needs
-
-wants-idk2-requires : tie.Need-wants-idk2-requires
-wants-idk2-requires c κs = search needs
-
-written-requires-2 : tie.Need-written-requires-2
-written-requires-2 c κs = search needs
-
-wants-idk1-requires-2 : tie.Need-wants-idk1-requires-2
-wants-idk1-requires-2 c κs = search needs
-
-written-requires-3 : tie.Need-written-requires-3
-written-requires-3 c κs = search needs
-
-wants-idk2-requires-2 : tie.Need-wants-idk2-requires-2
-wants-idk2-requires-2 c κs = search needs
-
-written-requires-4 : tie.Need-written-requires-4
-written-requires-4 c κs = search needs
-
-vector-requires : tie.Need-vector-requires
-vector-requires c κs = search needs
-
-dated-requires : tie.Need-dated-requires
-dated-requires c κs = search needs
-
-cast-write-ksm : tie.Need-cast-write-ksm
-cast-write-ksm c = search needs
-
-write-ksm-requires : tie.Need-write-ksm-requires
-write-ksm-requires c κs = search needs
-
-length-of-requires : tie.Need-length-of-requires
-length-of-requires c κs = search needs
-
-same-length : tie.Need-same-length
-same-length c = search needs
-
 returns : tie.Need-returns
 returns c =
     let date = c .before .before .before .before .before in
@@ -105,23 +48,23 @@ pub write-spec : {M : Type 1} → statement M
 write-spec =
     tie.close
     (tie.spec
-    outgoing-requires
-    data-keys-requires
-    mac-key-requires
-    bare-requires
-    sealed-keys-requires
-    wants-idk1-requires
-    written-requires
-    wants-idk2-requires
-    written-requires-2
-    wants-idk1-requires-2
-    written-requires-3
-    wants-idk2-requires-2
-    written-requires-4
-    vector-requires
-    dated-requires
-    cast-write-ksm
-    write-ksm-requires
-    length-of-requires
-    same-length
+    (λ c κs. search needs)
+    (λ c κs. search needs)
+    (λ c κs. search needs)
+    (λ c κs. search needs)
+    (λ c κs. search needs)
+    (λ c κs. search needs)
+    (λ c κs. search needs)
+    (λ c κs. search needs)
+    (λ c κs. search needs)
+    (λ c κs. search needs)
+    (λ c κs. search needs)
+    (λ c κs. search needs)
+    (λ c κs. search needs)
+    (λ c κs. search needs)
+    (λ c κs. search needs)
+    (λ c. search needs)
+    (λ c κs. search needs)
+    (λ c κs. search needs)
+    (λ c. search needs)
     returns)

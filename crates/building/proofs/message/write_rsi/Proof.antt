@@ -4,18 +4,6 @@ use borrow.Author.Needs.{needs}
 use Rattle.building.proofs.message.write_rsi.Statement.{statement}
 use Rattle.building.proofs.message.write_rsi.Tie as tie
 
-bare-requires : tie.Need-bare-requires
-bare-requires c κs = search needs
-
-write-rsi-requires : tie.Need-write-rsi-requires
-write-rsi-requires c κs = search needs
-
-length-of-requires : tie.Need-length-of-requires
-length-of-requires c κs = search needs
-
-same-length : tie.Need-same-length
-same-length c = search needs
-
 returns : tie.Need-returns
 returns c =
     let s = c .before .before .before .before .before .before .before .before .before .before .before .before in
@@ -25,4 +13,4 @@ returns c =
 
 pub write-rsi-spec : {M : Type 1} → statement M
 write-rsi-spec =
-    tie.close (tie.spec bare-requires write-rsi-requires length-of-requires same-length returns)
+    tie.close (tie.spec (λ c κs. search needs) (λ c κs. search needs) (λ c κs. search needs) (λ c. search needs) returns)

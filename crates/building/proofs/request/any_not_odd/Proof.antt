@@ -8,18 +8,9 @@ use borrow.Author.Needs.{needs}
 use Rattle.building.proofs.request.any_not_odd.Statement.{statement}
 use Rattle.building.proofs.request.any_not_odd.Tie as tie
 
-not-odd-requires : tie.Need-not-odd-requires
-not-odd-requires c κs = search needs
-
 returns : tie.Need-returns
 unfolding any used if_then_else_
 returns c = rw (eq-eqb _ 1 (c .before .if1 .taken)) (c .not-odd .ensures ∙ sym (or-false _))
-
-not-odd-requires-2 : tie.Need-not-odd-requires-2
-not-odd-requires-2 c κs = search needs
-
-not-odd-requires-3 : tie.Need-not-odd-requires-3
-not-odd-requires-3 c κs = search needs
 
 returns-2 : tie.Need-returns-2
 unfolding any used if_then_else_
@@ -50,10 +41,10 @@ pub any-not-odd-spec : {M : Type 1} → statement M
 any-not-odd-spec =
     tie.close
     (tie.spec
-    not-odd-requires
+    (λ c κs. search needs)
     returns
-    not-odd-requires-2
-    not-odd-requires-3
+    (λ c κs. search needs)
+    (λ c κs. search needs)
     returns-2
     returns-3
     returns-4)

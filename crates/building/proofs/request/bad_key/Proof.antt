@@ -11,12 +11,6 @@ returns : tie.Need-returns
 unfolding bad-key
 returns c = rw (le-ltb _ 8 (c .if1 .taken))
 
-wants-idk1-requires : tie.Need-wants-idk1-requires
-wants-idk1-requires c κs = search needs
-
-is-filled-requires : tie.Need-is-filled-requires
-is-filled-requires c κs = search needs
-
 returns-2 : tie.Need-returns-2
 unfolding bad-key
 returns-2 c =
@@ -32,4 +26,4 @@ returns-3 c =
 
 pub bad-key-spec : {M : Type 1} → statement M
 bad-key-spec =
-    tie.close (tie.spec returns wants-idk1-requires is-filled-requires returns-2 returns-3)
+    tie.close (tie.spec returns (λ c κs. search needs) (λ c κs. search needs) returns-2 returns-3)

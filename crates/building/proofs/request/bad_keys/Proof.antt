@@ -6,15 +6,9 @@ use borrow.Author.Needs.{needs}
 use Rattle.building.proofs.request.bad_keys.Statement.{statement}
 use Rattle.building.proofs.request.bad_keys.Tie as tie
 
-bad-key-requires : tie.Need-bad-key-requires
-bad-key-requires c κs = search needs
-
 returns : tie.Need-returns
 unfolding used bad-keys if_then_else_
 returns c = rw (eq-eqb _ 1 (c .before .if1 .taken)) (c .bad-key .ensures)
-
-bad-pair-requires : tie.Need-bad-pair-requires
-bad-pair-requires c κs = search needs
 
 returns-2 : tie.Need-returns-2
 unfolding used if_then_else_
@@ -27,4 +21,4 @@ unfolding used bad-keys if_then_else_
 returns-3 c = rw (ne-eqb _ 1 (c .before .before .if1 .left), ne-eqb _ 2 (c .if2 .left))
 
 pub bad-keys-spec : {M : Type 1} → statement M
-bad-keys-spec = tie.close (tie.spec bad-key-requires returns bad-pair-requires returns-2 returns-3)
+bad-keys-spec = tie.close (tie.spec (λ c κs. search needs) returns (λ c κs. search needs) returns-2 returns-3)

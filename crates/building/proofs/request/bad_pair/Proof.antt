@@ -10,12 +10,6 @@ returns : tie.Need-returns
 unfolding bad-keys
 returns c = rw (eq-eqb _ _ (c .if1 .taken))
 
-bad-key-requires : tie.Need-bad-key-requires
-bad-key-requires c κs = search needs
-
-bad-key-requires-2 : tie.Need-bad-key-requires-2
-bad-key-requires-2 c κs = search needs
-
 returns-2 : tie.Need-returns-2
 unfolding bad-keys
 returns-2 c =
@@ -30,4 +24,4 @@ returns-3 c =
 
 pub bad-pair-spec : {M : Type 1} → statement M
 bad-pair-spec =
-    tie.close (tie.spec returns bad-key-requires bad-key-requires-2 returns-2 returns-3)
+    tie.close (tie.spec returns (λ c κs. search needs) (λ c κs. search needs) returns-2 returns-3)

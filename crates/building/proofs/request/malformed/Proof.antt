@@ -7,9 +7,6 @@ use borrow.Author.Needs.{needs}
 use Rattle.building.proofs.request.malformed.Statement.{statement}
 use Rattle.building.proofs.request.malformed.Tie as tie
 
-bad-keys-requires : tie.Need-bad-keys-requires
-bad-keys-requires c κs = search needs
-
 returns : tie.Need-returns
 unfolding malformed
 returns c = rw (sym (c .before .bad-keys .ensures) ∙ c .if1 .taken)
@@ -30,9 +27,6 @@ returns-3 c =
       lt-ltb _ 3 (u .if2 .left),
       le-ltb _ 2 (c .if3 .taken),
     )
-
-is-date-requires : tie.Need-is-date-requires
-is-date-requires c κs = search needs
 
 returns-4 : tie.Need-returns-4
 unfolding malformed
@@ -63,4 +57,4 @@ returns-5 c =
 pub malformed-spec : {M : Type 1} → statement M
 malformed-spec =
     tie.close
-    (tie.spec bad-keys-requires returns returns-2 returns-3 is-date-requires returns-4 returns-5)
+    (tie.spec (λ c κs. search needs) returns returns-2 returns-3 (λ c κs. search needs) returns-4 returns-5)

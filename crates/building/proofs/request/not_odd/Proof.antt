@@ -6,12 +6,6 @@ use borrow.Author.Needs.{needs}
 use Rattle.building.proofs.request.not_odd.Statement.{statement}
 use Rattle.building.proofs.request.not_odd.Tie as tie
 
-wants-p-requires : tie.Need-wants-p-requires
-wants-p-requires c κs = search needs
-
-odd-requires : tie.Need-odd-requires
-odd-requires c κs = search needs
-
 returns : tie.Need-returns
 unfolding not-odd
 returns c = rw (sym (c .before .before .wants-p .ensures) ∙ c .before .if1 .taken) (ap not (c .odd .ensures))
@@ -21,4 +15,4 @@ unfolding not-odd
 returns-2 c = rw (sym (c .before .wants-p .ensures) ∙ c .if1 .left) (c .if1 .left)
 
 pub not-odd-spec : {M : Type 1} → statement M
-not-odd-spec = tie.close (tie.spec wants-p-requires odd-requires returns returns-2)
+not-odd-spec = tie.close (tie.spec (λ c κs. search needs) (λ c κs. search needs) returns returns-2)

@@ -9,26 +9,11 @@ use borrow.Author.Needs.{needs}
 use Rattle.fields.proofs.keys.behind.Statement.{statement}
 use Rattle.fields.proofs.keys.behind.Tie as tie
 
-add-a : tie.Need-add-a
-add-a c = search needs
-
-sub-result : tie.Need-sub-result
-sub-result c = search needs
-
-part-result-start : tie.Need-part-result-start
-part-result-start c = search needs
-
-part-result-end : tie.Need-part-result-end
-part-result-end c = search needs
-
 returns : tie.Need-returns
 returns c =
     let a = c .before .before .args in
     let w = a .w .now in
     take-all (length w - (a .n + 1)) (drop (a .n + 1) w) (omega (arith, length-drop (a .n + 1) w))
-
-slice-aggregate-result : tie.Need-slice-aggregate-result
-slice-aggregate-result c = search needs
 
 returns-2 : tie.Need-returns-2
 returns-2 c = let a = c .before .before .args in sym (drop-end (a .w .now) (a .n + 1) (omega arith))
@@ -37,10 +22,10 @@ pub behind-spec : {M : Type 1} → statement M
 behind-spec =
     tie.close
     (tie.spec
-    add-a
-    sub-result
-    part-result-start
-    part-result-end
+    (λ c. search needs)
+    (λ c. search needs)
+    (λ c. search needs)
+    (λ c. search needs)
     returns
-    slice-aggregate-result
+    (λ c. search needs)
     returns-2)

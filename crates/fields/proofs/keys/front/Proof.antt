@@ -9,11 +9,8 @@ use Rattle.fields.proofs.keys.front.Tie as tie
 slice-aggregate-result : tie.Need-slice-aggregate-result
 slice-aggregate-result c = let a = c .before .before .args in sym (length-take-le (a .n) (a .w .now) (omega arith))
 
-returns : tie.Need-returns
-returns c = search needs
-
 returns-2 : tie.Need-returns-2
 returns-2 c = let a = c .before .args in sym (take-all (a .n) (a .w .now) (omega arith))
 
 pub front-spec : {M : Type 1} → statement M
-front-spec = tie.close (tie.spec slice-aggregate-result returns returns-2)
+front-spec = tie.close (tie.spec slice-aggregate-result (λ c. search needs) returns-2)

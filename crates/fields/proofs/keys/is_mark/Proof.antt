@@ -8,16 +8,10 @@ use Rattle.fields.proofs.keys.is_mark.Tie as tie
 returns : tie.Need-returns
 returns c = simp (empty-same (c .before .before .args .w .now) (omega arith))
 
-slice-aggregate-same : tie.Need-slice-aggregate-same
-slice-aggregate-same c = search needs
-
-same-requires : tie.Need-same-requires
-same-requires c κs = search needs
-
 returns-2 : tie.Need-returns-2
 returns-2 c =
     let k = c .before .before in
     simp (full-same (k .before .before .args .w .now) (k .if1 .left)) (c .same .ensures)
 
 pub is-mark-spec : {M : Type 1} → statement M
-is-mark-spec = tie.close (tie.spec returns slice-aggregate-same same-requires returns-2)
+is-mark-spec = tie.close (tie.spec returns (λ c. search needs) (λ c κs. search needs) returns-2)

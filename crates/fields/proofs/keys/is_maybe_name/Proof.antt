@@ -8,13 +8,10 @@ use Rattle.fields.proofs.keys.is_maybe_name.Tie as tie
 returns : tie.Need-returns
 returns c = simp (empty-same (c .before .before .args .w .now) (omega arith))
 
-is-name-requires : tie.Need-is-name-requires
-is-name-requires c κs = search needs
-
 returns-2 : tie.Need-returns-2
 returns-2 c =
     let k = c .before in
     simp (full-same (k .before .before .args .w .now) (k .if1 .left)) (c .is-name .ensures)
 
 pub is-maybe-name-spec : {M : Type 1} → statement M
-is-maybe-name-spec = tie.close (tie.spec returns is-name-requires returns-2)
+is-maybe-name-spec = tie.close (tie.spec returns (λ c κs. search needs) returns-2)

@@ -17,15 +17,6 @@ use borrow.Author.Needs.{needs}
 use Rattle.fields.proofs.keys.key.Statement.{statement}
 use Rattle.fields.proofs.keys.key.Tie as tie
 
-until-requires : tie.Need-until-requires
-until-requires c κs = search needs
-
-front-requires : tie.Need-front-requires
-front-requires c κs = search needs
-
-is-run-requires : tie.Need-is-run-requires
-is-run-requires c κs = search needs
-
 -- whether the first piece is a key
 digits-are : (c : tie.After-is-run) (b : Bool) → c .is-run .result ≡ b → let k = c .before .before in
     is-run 70 16 16 (take (k .until .result) (k .before .before .args .w .now)) ≡ b
@@ -59,18 +50,6 @@ returns-2 c =
     sym (key-alone w _ (k .until .ensures) (c .if2 .taken) true (yes (d .before))
     ∙ ap (λ (n : ℕ). keyed true n (length w) (Are false 0 0)) (key-is d))
 
-behind-requires : tie.Need-behind-requires
-behind-requires c κs = search needs
-
-mark-and-names-requires : tie.Need-mark-and-names-requires
-mark-and-names-requires c κs = search needs
-
-enum-known-p : tie.Need-enum-known-p
-enum-known-p c = search needs
-
-enum-told : tie.Need-enum-told
-enum-told c = search needs
-
 -- the key and what its subfields give
 behind-key : (c : tie.After-mark-and-names) → let d = c .before .before .before in
     let k = d .before .before .before .before in let w = k .before .before .args .w .now in
@@ -103,15 +82,15 @@ pub key-spec : {M : Type 1} → statement M
 key-spec =
     tie.close
     (tie.spec
-    until-requires
-    front-requires
-    is-run-requires
+    (λ c κs. search needs)
+    (λ c κs. search needs)
+    (λ c κs. search needs)
     returns
     numeral-requires
     returns-2
-    behind-requires
-    mark-and-names-requires
-    enum-known-p
-    enum-told
+    (λ c κs. search needs)
+    (λ c κs. search needs)
+    (λ c. search needs)
+    (λ c. search needs)
     returns-3
     returns-4)

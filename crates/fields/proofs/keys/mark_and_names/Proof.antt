@@ -14,18 +14,6 @@ use borrow.Author.Needs.{needs}
 use Rattle.fields.proofs.keys.mark_and_names.Statement.{statement}
 use Rattle.fields.proofs.keys.mark_and_names.Tie as tie
 
-until-requires : tie.Need-until-requires
-until-requires c κs = search needs
-
-front-requires : tie.Need-front-requires
-front-requires c κs = search needs
-
-slice-aggregate-same : tie.Need-slice-aggregate-same
-slice-aggregate-same c = search needs
-
-same-requires : tie.Need-same-requires
-same-requires c κs = search needs
-
 -- whether the first piece is the mark
 p-is : (c : tie.After-same) → let k = c .before .before .before in
     same (take (k .until .result) (k .before .before .args .w .now)) (ascii "P") ≡ c .same .result
@@ -46,9 +34,6 @@ returns-2 c =
     let w = k .before .before .args .w .now in
     sym (mark-one w _ (k .until .ensures) (c .before .if1 .taken) false (p-is p ∙ c .if2 .left))
 
-is-mark-requires : tie.Need-is-mark-requires
-is-mark-requires c κs = search needs
-
 -- the mark or nothing, then what names give
 parted : (c : tie.After-is-mark) (b : Bool) → c .is-mark .result ≡ b
     → let p = c .before .before in let k = p .before .before .before in let w = k .before .before .args .w .now in
@@ -66,18 +51,6 @@ parted c b e =
 
 returns-3 : tie.Need-returns-3
 returns-3 c = sym (parted (c .before) false (not-true _ (c .if3 .taken)))
-
-behind-requires : tie.Need-behind-requires
-behind-requires c κs = search needs
-
-names-requires : tie.Need-names-requires
-names-requires c κs = search needs
-
-enum-known-idk1 : tie.Need-enum-known-idk1
-enum-known-idk1 c = search needs
-
-enum-told : tie.Need-enum-told
-enum-told c = search needs
 
 -- what names give behind the mark's dot
 behind-mark : (c : tie.After-names) → let p = c .before .before .before .before .before in
@@ -105,17 +78,17 @@ pub mark-and-names-spec : {M : Type 1} → statement M
 mark-and-names-spec =
     tie.close
     (tie.spec
-    until-requires
-    front-requires
-    slice-aggregate-same
-    same-requires
+    (λ c κs. search needs)
+    (λ c κs. search needs)
+    (λ c. search needs)
+    (λ c κs. search needs)
     returns
     returns-2
-    is-mark-requires
+    (λ c κs. search needs)
     returns-3
-    behind-requires
-    names-requires
-    enum-known-idk1
-    enum-told
+    (λ c κs. search needs)
+    (λ c κs. search needs)
+    (λ c. search needs)
+    (λ c. search needs)
     returns-4
     returns-5)

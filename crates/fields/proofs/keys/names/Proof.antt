@@ -11,12 +11,6 @@ use borrow.Author.Needs.{needs}
 use Rattle.fields.proofs.keys.names.Statement.{statement}
 use Rattle.fields.proofs.keys.names.Tie as tie
 
-until-requires : tie.Need-until-requires
-until-requires c κs = search needs
-
-is-name-requires : tie.Need-is-name-requires
-is-name-requires c κs = search needs
-
 returns : tie.Need-returns
 returns c =
     let k = c .before .before .before in
@@ -28,12 +22,6 @@ returns-2 c =
     let k = c .before .before .before in
     let no = sym (c .before .is-name .ensures) ∙ c .if2 .left in
     sym (names-one (k .before .before .args .w .now) _ (k .until .ensures) (c .before .before .if1 .taken) false no)
-
-front-requires : tie.Need-front-requires
-front-requires c κs = search needs
-
-is-maybe-name-requires : tie.Need-is-maybe-name-requires
-is-maybe-name-requires c κs = search needs
 
 returns-3 : tie.Need-returns-3
 returns-3 c =
@@ -49,12 +37,6 @@ first : (c : tie.Else3) → let k = c .before .before .before .before in
 first c =
     ap is-maybe-name (sym (c .before .before .front .ensures)) ∙ sym (c .before .is-maybe-name .ensures)
     ∙ not-false _ (c .if3 .left)
-
-behind-requires : tie.Need-behind-requires
-behind-requires c κs = search needs
-
-is-name-requires-2 : tie.Need-is-name-requires-2
-is-name-requires-2 c κs = search needs
 
 returns-4 : tie.Need-returns-4
 returns-4 c =
@@ -80,14 +62,14 @@ pub names-spec : {M : Type 1} → statement M
 names-spec =
     tie.close
     (tie.spec
-    until-requires
-    is-name-requires
+    (λ c κs. search needs)
+    (λ c κs. search needs)
     returns
     returns-2
-    front-requires
-    is-maybe-name-requires
+    (λ c κs. search needs)
+    (λ c κs. search needs)
     returns-3
-    behind-requires
-    is-name-requires-2
+    (λ c κs. search needs)
+    (λ c κs. search needs)
     returns-4
     returns-5)

@@ -13,12 +13,6 @@ use borrow.Author.Needs.{needs}
 use Rattle.fields.proofs.words.class.Statement.{statement}
 use Rattle.fields.proofs.words.class.Tie as tie
 
-slice-aggregate-place : tie.Need-slice-aggregate-place
-slice-aggregate-place c = search needs
-
-place-requires : tie.Need-place-requires
-place-requires c κs = search needs
-
 -- the class of each place
 known : (c : tie.After-place) (i : ℕ) → c .place .result ≡ i → i < 8
     → getD classes i Nothing ≡ class-seen (alone (value mcl (c .before .before .before .args .w .now)))
@@ -62,8 +56,8 @@ pub class-spec : {M : Type 1} → statement M
 class-spec =
     tie.close
     (tie.spec
-    slice-aggregate-place
-    place-requires
+    (λ c. search needs)
+    (λ c κs. search needs)
     returns
     returns-2
     returns-3

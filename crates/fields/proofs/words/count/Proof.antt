@@ -17,9 +17,6 @@ use borrow.Author.Needs.{needs}
 use Rattle.fields.proofs.words.count.Statement.{statement}
 use Rattle.fields.proofs.words.count.Tie as tie
 
-is-run-requires : tie.Need-is-run-requires
-is-run-requires c κs = search needs
-
 returns : tie.Need-returns
 returns c =
     let w = c .before .before .before .args .w .now in
@@ -67,4 +64,4 @@ returns-3 c =
 pub count-spec : {M : Type 1} → statement M
 count-spec =
     tie.close
-    (tie.spec is-run-requires returns shared-slice-read-if2 returns-2 numeral-requires returns-3)
+    (tie.spec (λ c κs. search needs) returns shared-slice-read-if2 returns-2 numeral-requires returns-3)

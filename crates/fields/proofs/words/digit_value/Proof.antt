@@ -8,21 +8,12 @@ use Rattle.fields.proofs.words.digit_value.Tie as tie
 returns : tie.Need-returns
 returns c = let b = c .before .args .b in simp (lt-ltb b 65 (omega arith)) (omega arith)
 
-cast-result : tie.Need-cast-result
-cast-result c = search needs
-
 returns-2 : tie.Need-returns-2
 returns-2 c = let b = c .before .before .args .b in simp (lt-ltb b 65 (omega arith))
-
-cast-result-2 : tie.Need-cast-result-2
-cast-result-2 c = search needs
-
-add-result : tie.Need-add-result
-add-result c = search needs
 
 returns-3 : tie.Need-returns-3
 returns-3 c = let b = c .before .before .args .b in simp (le-ltb b 65 (omega arith)) (omega arith)
 
 pub digit-value-spec : {M : Type 1} → statement M
 digit-value-spec =
-    tie.close (tie.spec returns cast-result returns-2 cast-result-2 add-result returns-3)
+    tie.close (tie.spec returns (λ c. search needs) returns-2 (λ c. search needs) (λ c. search needs) returns-3)

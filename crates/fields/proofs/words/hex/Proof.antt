@@ -13,9 +13,6 @@ use borrow.Author.Needs.{needs}
 use Rattle.fields.proofs.words.hex.Statement.{statement}
 use Rattle.fields.proofs.words.hex.Tie as tie
 
-is-run-requires : tie.Need-is-run-requires
-is-run-requires c κs = search needs
-
 returns : tie.Need-returns
 returns c =
     let w = c .before .before .before .args .w .now in
@@ -41,4 +38,4 @@ returns-2 c =
     sym (number-is (hex d) w _ e)
 
 pub hex-spec : {M : Type 1} → statement M
-hex-spec = tie.close (tie.spec is-run-requires returns numeral-requires returns-2)
+hex-spec = tie.close (tie.spec (λ c κs. search needs) returns numeral-requires returns-2)

@@ -6,9 +6,6 @@ use borrow.Author.Needs.{needs}
 use Rattle.fields.proofs.words.letter_at.Statement.{statement}
 use Rattle.fields.proofs.words.letter_at.Tie as tie
 
-shared-slice-read-if2 : tie.Need-shared-slice-read-if2
-shared-slice-read-if2 c = search needs
-
 returns : tie.Need-returns
 returns c =
     let a = c .before .before .before .args in
@@ -23,4 +20,4 @@ returns-3 : tie.Need-returns-3
 returns-3 c = let a = c .before .args in simp (drop-end (a .w .now) (a .at) (omega arith))
 
 pub letter-at-spec : {M : Type 1} → statement M
-letter-at-spec = tie.close (tie.spec shared-slice-read-if2 returns returns-2 returns-3)
+letter-at-spec = tie.close (tie.spec (λ c. search needs) returns returns-2 returns-3)

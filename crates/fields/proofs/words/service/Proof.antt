@@ -12,12 +12,6 @@ use borrow.Author.Needs.{needs}
 use Rattle.fields.proofs.words.service.Statement.{statement}
 use Rattle.fields.proofs.words.service.Tie as tie
 
-slice-aggregate-place : tie.Need-slice-aggregate-place
-slice-aggregate-place c = search needs
-
-place-requires : tie.Need-place-requires
-place-requires c κs = search needs
-
 returns : tie.Need-returns
 returns c =
     let w = c .before .before .before .before .args .w .now in
@@ -37,4 +31,4 @@ returns-2 c =
     sym (number-not svr w e)
 
 pub service-spec : {M : Type 1} → statement M
-service-spec = tie.close (tie.spec slice-aggregate-place place-requires returns returns-2)
+service-spec = tie.close (tie.spec (λ c. search needs) (λ c κs. search needs) returns returns-2)

@@ -9,9 +9,6 @@ use borrow.Author.Needs.{needs}
 use Rattle.host.proofs.report.put_report.Statement.{statement}
 use Rattle.host.proofs.report.put_report.Tie as tie
 
-put-whole-requires : tie.Need-put-whole-requires
-put-whole-requires c κs = search needs
-
 returns : tie.Need-returns
 returns c =
     let a = c .before .before .args in
@@ -24,4 +21,4 @@ returns c =
     w .text ∙ ap (λ (u : Text). t ++ u) (drop-of-length-le l {i = length t} (omega arith)) ∙ append-nil t
 
 pub put-report-spec : {M : Type 1} → statement M
-put-report-spec = tie.close (tie.spec put-whole-requires returns)
+put-report-spec = tie.close (tie.spec (λ c κs. search needs) returns)

@@ -10,21 +10,6 @@ use Rattle.image.proofs.Steps.{past-end}
 use Rattle.image.proofs.records.entry_at.Statement.{statement}
 use Rattle.image.proofs.records.entry_at.Tie as tie
 
-add-part : tie.Need-add-part
-add-part c = search needs
-
-part-requires : tie.Need-part-requires
-part-requires c κs = search needs
-
-entry-in-requires : tie.Need-entry-in-requires
-entry-in-requires c κs = search needs
-
-part-requires-2 : tie.Need-part-requires-2
-part-requires-2 c κs = search needs
-
-entry-in-requires-2 : tie.Need-entry-in-requires-2
-entry-in-requires-2 c κs = search needs
-
 returns : tie.Need-returns
 unfolding entry-at
 returns c = c .entry-in .ensures ∙ ap entry-in (c .before .part .ensures)
@@ -41,10 +26,10 @@ pub entry-at-spec : {M : Type 1} → statement M
 entry-at-spec =
     tie.close
     (tie.spec
-    add-part
-    part-requires
-    entry-in-requires
-    part-requires-2
-    entry-in-requires-2
+    (λ c. search needs)
+    (λ c κs. search needs)
+    (λ c κs. search needs)
+    (λ c κs. search needs)
+    (λ c κs. search needs)
     returns
     returns-2)

@@ -12,9 +12,6 @@ use Rattle.image.proofs.Steps.{kind-within}
 use Rattle.image.proofs.records.is_partner.Statement.{statement}
 use Rattle.image.proofs.records.is_partner.Tie as tie
 
-byte-at-requires : tie.Need-byte-at-requires
-byte-at-requires c κs = search needs
-
 returns : tie.Need-returns
 returns c =
     let a = c .before .before .before .before .args in
@@ -28,12 +25,6 @@ add-part c =
     let h : getD (a .image .now) (a .at) 0 ≡ 2 = sym (c .before .byte-at .ensures) ∙ c .if1 .left in
     omega (arith, kind-within (a .image .now) (a .at) 1 h)
 
-part-requires : tie.Need-part-requires
-part-requires c κs = search needs
-
-same-requires : tie.Need-same-requires
-same-requires c κs = search needs
-
 returns-2 : tie.Need-returns-2
 returns-2 c =
     let a = c .before .before .before .before .before .before .args in
@@ -46,9 +37,9 @@ pub is-partner-spec : {M : Type 1} → statement M
 is-partner-spec =
     tie.close
     (tie.spec
-    byte-at-requires
+    (λ c κs. search needs)
     returns
     add-part
-    part-requires
-    same-requires
+    (λ c κs. search needs)
+    (λ c κs. search needs)
     returns-2)

@@ -28,9 +28,6 @@ returns c =
     let g = added-outside (a .at) (a .image .now) (a .out .now) (a .e) (c .if1 .taken) in
     (g .buffer, g .size)
 
-add-if2 : tie.Need-add-if2
-add-if2 c = search needs
-
 returns-2 : tie.Need-returns-2
 returns-2 c =
     let start = c .before .before .before .before in
@@ -38,12 +35,6 @@ returns-2 c =
     let inside = c .before .if1 .left in
     let g = added-no-room (a .at) (a .image .now) (a .out .now) (a .e) (sized start) inside (c .if2 .taken) in
     (g .buffer, g .size)
-
-put-added-requires : tie.Need-put-added-requires
-put-added-requires c κs = search needs
-
-same-length : tie.Need-same-length
-same-length c = search needs
 
 returns-3 : tie.Need-returns-3
 returns-3 c =
@@ -57,4 +48,4 @@ returns-3 c =
 
 pub load-at-spec : {M : Type 1} → statement M
 load-at-spec =
-    tie.close (tie.spec returns add-if2 returns-2 put-added-requires same-length returns-3)
+    tie.close (tie.spec returns (λ c. search needs) returns-2 (λ c κs. search needs) (λ c. search needs) returns-3)

@@ -19,18 +19,6 @@ slice-aggregate-copy c =
     let a = c .before .before .before .before .args in
     sym (length-take-le (a .at) (a .image .now) (omega arith))
 
-copy-requires : tie.Need-copy-requires
-copy-requires c κs = search needs
-
-sub-put-partner : tie.Need-sub-put-partner
-sub-put-partner c = search needs
-
-part-put-partner-start : tie.Need-part-put-partner-start
-part-put-partner-start c = search needs
-
-part-put-partner-end : tie.Need-part-put-partner-end
-part-put-partner-end c = search needs
-
 put-partner-requires : tie.Need-put-partner-requires
 put-partner-requires c κs =
     let a = c .before .before .before .before .before .before .before .before .args in
@@ -38,12 +26,6 @@ put-partner-requires c κs =
     let k : length (take (a .at) (a .image .now)) ≡ a .at = length-take-le (a .at) (a .image .now) (omega arith) in
     let i : length (copied .last .0) ≡ length (a .out .now) = copied .kept .0 in
     room-left (copied .last .0) (copied .result) 157 (omega (arith, copied .ensures .1))
-
-add-b : tie.Need-add-b
-add-b c = search needs
-
-add-from : tie.Need-add-from
-add-from c = search needs
 
 sub-copy : tie.Need-sub-copy
 sub-copy c =
@@ -60,27 +42,6 @@ part-copy-start c =
     let copied = c .before .before .before .before .before .before .copy in
     let i : length (copied .last .0) ≡ length (a .out .now) = copied .kept .0 in
     omega (arith, copied .ensures .1, c .before .before .put-partner .ensures .1)
-
-part-copy-end : tie.Need-part-copy-end
-part-copy-end c = search needs
-
-sub-copy-2 : tie.Need-sub-copy-2
-sub-copy-2 c = search needs
-
-part-copy-start-2 : tie.Need-part-copy-start-2
-part-copy-start-2 c = search needs
-
-part-copy-end-2 : tie.Need-part-copy-end-2
-part-copy-end-2 c = search needs
-
-copy-requires-2 : tie.Need-copy-requires-2
-copy-requires-2 c κs = search needs
-
-add-result : tie.Need-add-result
-add-result c = search needs
-
-same-length : tie.Need-same-length
-same-length c = search needs
 
 returns : tie.Need-returns
 unfolding with-partner
@@ -107,20 +68,20 @@ put-added-spec =
     tie.close
     (tie.spec
     slice-aggregate-copy
-    copy-requires
-    sub-put-partner
-    part-put-partner-start
-    part-put-partner-end
+    (λ c κs. search needs)
+    (λ c. search needs)
+    (λ c. search needs)
+    (λ c. search needs)
     put-partner-requires
-    add-b
-    add-from
+    (λ c. search needs)
+    (λ c. search needs)
     sub-copy
     part-copy-start
-    part-copy-end
-    sub-copy-2
-    part-copy-start-2
-    part-copy-end-2
-    copy-requires-2
-    add-result
-    same-length
+    (λ c. search needs)
+    (λ c. search needs)
+    (λ c. search needs)
+    (λ c. search needs)
+    (λ c κs. search needs)
+    (λ c. search needs)
+    (λ c. search needs)
     returns)

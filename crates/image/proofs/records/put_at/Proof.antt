@@ -4,24 +4,6 @@ use Rattle.image.proofs.Buffers.{put-back-so, put-back-not}
 use Rattle.image.proofs.records.put_at.Statement.{statement}
 use Rattle.image.proofs.records.put_at.Tie as tie
 
-add-body : tie.Need-add-body
-add-body c = search needs
-
-sub-put-entry : tie.Need-sub-put-entry
-sub-put-entry c = search needs
-
-part-put-entry-start : tie.Need-part-put-entry-start
-part-put-entry-start c = search needs
-
-part-put-entry-end : tie.Need-part-put-entry-end
-part-put-entry-end c = search needs
-
-put-entry-requires : tie.Need-put-entry-requires
-put-entry-requires c κs = search needs
-
-same-length : tie.Need-same-length
-same-length c = search needs
-
 returns : tie.Need-returns
 returns c =
     let a = c .before .before .before .before .before .before .args in
@@ -38,11 +20,11 @@ pub put-at-spec : {M : Type 1} → statement M
 put-at-spec =
     tie.close
     (tie.spec
-    add-body
-    sub-put-entry
-    part-put-entry-start
-    part-put-entry-end
-    put-entry-requires
-    same-length
+    (λ c. search needs)
+    (λ c. search needs)
+    (λ c. search needs)
+    (λ c. search needs)
+    (λ c κs. search needs)
+    (λ c. search needs)
     returns
     returns-2)

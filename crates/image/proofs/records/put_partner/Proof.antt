@@ -11,30 +11,12 @@ use Rattle.image.proofs.Buffers.{put-small, put-long, room-left, wrote-
 use Rattle.image.proofs.records.put_partner.Statement.{statement}
 use Rattle.image.proofs.records.put_partner.Tie as tie
 
-fill-requires : tie.Need-fill-requires
-fill-requires c κs = search needs
-
-sub-put-entry : tie.Need-sub-put-entry
-sub-put-entry c = search needs
-
-part-put-entry-start : tie.Need-part-put-entry-start
-part-put-entry-start c = search needs
-
-part-put-entry-end : tie.Need-part-put-entry-end
-part-put-entry-end c = search needs
-
-put-entry-requires : tie.Need-put-entry-requires
-put-entry-requires c κs = search needs
-
 add-result : tie.Need-add-result
 add-result c =
     let filled = c .before .before .before .before .before .before .fill in
     let l : Text = take (length (filled .last .0) - filled .result) (drop (filled .result) (filled .last .0)) in
     let small = put-small (c .before .before .before .before .before .before .before .before .before .args .e) l in
     omega (arith, filled .ensures .1, c .before .before .put-entry .ensures .1)
-
-same-length : tie.Need-same-length
-same-length c = search needs
 
 returns : tie.Need-returns
 returns c =
@@ -54,11 +36,11 @@ pub put-partner-spec : {M : Type 1} → statement M
 put-partner-spec =
     tie.close
     (tie.spec
-    fill-requires
-    sub-put-entry
-    part-put-entry-start
-    part-put-entry-end
-    put-entry-requires
+    (λ c κs. search needs)
+    (λ c. search needs)
+    (λ c. search needs)
+    (λ c. search needs)
+    (λ c κs. search needs)
     add-result
-    same-length
+    (λ c. search needs)
     returns)

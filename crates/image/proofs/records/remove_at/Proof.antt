@@ -11,29 +11,17 @@ returns c =
     let g = removed-outside (a .at) (a .image .now) (a .out .now) (omega arith) in
     (g .buffer, g .size)
 
-sub-if2 : tie.Need-sub-if2
-sub-if2 c = search needs
-
 returns-2 : tie.Need-returns-2
 returns-2 c =
     let a = c .before .before .before .before .args in
     let g = removed-outside (a .at) (a .image .now) (a .out .now) (omega arith) in
     (g .buffer, g .size)
 
-sub-if3 : tie.Need-sub-if3
-sub-if3 c = search needs
-
 returns-3 : tie.Need-returns-3
 returns-3 c =
     let a = c .before .before .before .before .before .args in
     let g = removed-no-room (a .at) (a .image .now) (a .out .now) (omega arith) (omega arith) in
     (g .buffer, g .size)
-
-put-removed-requires : tie.Need-put-removed-requires
-put-removed-requires c κs = search needs
-
-same-length : tie.Need-same-length
-same-length c = search needs
 
 returns-4 : tie.Need-returns-4
 returns-4 c =
@@ -47,10 +35,10 @@ remove-at-spec =
     tie.close
     (tie.spec
     returns
-    sub-if2
+    (λ c. search needs)
     returns-2
-    sub-if3
+    (λ c. search needs)
     returns-3
-    put-removed-requires
-    same-length
+    (λ c κs. search needs)
+    (λ c. search needs)
     returns-4)

@@ -6,20 +6,11 @@ use borrow.Author.Needs.{needs}
 use Rattle.messages.proofs.legal.are_counts.Statement.{statement}
 use Rattle.messages.proofs.legal.are_counts.Tie as tie
 
-enum-told : tie.Need-enum-told
-enum-told c = search needs
-
-enum-known-counts : tie.Need-enum-known-counts
-enum-known-counts c = search needs
-
 returns : tie.Need-returns
 returns c =
     let k = c .before .before .counts .given in
     let a = c .before .before .before .before .args in
     sym (counts-with (k .0 .0) (k .0 .1 .0) (a .both) (k .1) ∙ rw (not-true (a .both) (c .if1 .taken)))
-
-is-count-requires : tie.Need-is-count-requires
-is-count-requires c κs = search needs
 
 returns-2 : tie.Need-returns-2
 returns-2 c =
@@ -28,9 +19,6 @@ returns-2 c =
     let both = v .before .before .before .before .args .both in
     let h = sym (c .before .is-count .ensures) ∙ not-true _ (c .if2 .taken) in
     sym (counts-with (k .0 .0) (k .0 .1 .0) both (k .1) ∙ rw (not-false both (v .if1 .left), h))
-
-is-count-requires-2 : tie.Need-is-count-requires-2
-is-count-requires-2 c κs = search needs
 
 returns-3 : tie.Need-returns-3
 returns-3 c = sym (counts-without (c .before .before .args .both) (c .enum-told .given .1))
@@ -49,11 +37,11 @@ pub are-counts-spec : {M : Type 1} → statement M
 are-counts-spec =
     tie.close
     (tie.spec
-    enum-told
-    enum-known-counts
+    (λ c. search needs)
+    (λ c. search needs)
     returns
-    is-count-requires
+    (λ c κs. search needs)
     returns-2
-    is-count-requires-2
+    (λ c κs. search needs)
     returns-3
     returns-4)

@@ -6,18 +6,6 @@ use borrow.Author.Needs.{needs}
 use Rattle.messages.proofs.legal.are_keys.Statement.{statement}
 use Rattle.messages.proofs.legal.are_keys.Tie as tie
 
-enum-known-keys : tie.Need-enum-known-keys
-enum-known-keys c = search needs
-
-is-kd-requires : tie.Need-is-kd-requires
-is-kd-requires c κs = search needs
-
-enum-known-keys-2 : tie.Need-enum-known-keys-2
-enum-known-keys-2 c = search needs
-
-is-kd-requires-2 : tie.Need-is-kd-requires-2
-is-kd-requires-2 c κs = search needs
-
 returns : tie.Need-returns
 returns c =
     let k = c .before .before .before .keys2 .given in
@@ -25,9 +13,6 @@ returns c =
     sym
     (two-legal (k .0 .0) (k .0 .1 .0) (a .idk1 .now) (a .idk2 .now) (a .second-idk1 .now) (a .second-idk2 .now) (k .1)
     ∙ rw (sym (c .before .is-kd2 .ensures) ∙ not-true _ (c .if1 .taken)))
-
-is-kd-requires-3 : tie.Need-is-kd-requires-3
-is-kd-requires-3 c κs = search needs
 
 returns-2 : tie.Need-returns-2
 returns-2 c =
@@ -48,11 +33,11 @@ pub are-keys-spec : {M : Type 1} → statement M
 are-keys-spec =
     tie.close
     (tie.spec
-    enum-known-keys
-    is-kd-requires
-    enum-known-keys-2
-    is-kd-requires-2
+    (λ c. search needs)
+    (λ c κs. search needs)
+    (λ c. search needs)
+    (λ c κs. search needs)
     returns
-    is-kd-requires-3
+    (λ c κs. search needs)
     returns-2
     returns-3)

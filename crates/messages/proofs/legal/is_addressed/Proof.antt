@@ -9,17 +9,11 @@ use Rattle.messages.proofs.legal.is_addressed.Tie as tie
 returns : tie.Need-returns
 returns c = rw (lt-leb 256 (c .before .before .before .args .room) (omega arith))
 
-is-name-requires : tie.Need-is-name-requires
-is-name-requires c κs = search needs
-
 returns-2 : tie.Need-returns-2
 returns-2 c =
     let r = c .before .before .before .before .before .args .room in
     let h = sym (c .before .is-name .ensures) ∙ not-true _ (c .if2 .taken) in
     rw (le-leb 256 r (omega arith), h)
-
-is-name-requires-2 : tie.Need-is-name-requires-2
-is-name-requires-2 c κs = search needs
 
 returns-3 : tie.Need-returns-3
 returns-3 c =
@@ -29,4 +23,4 @@ returns-3 c =
 
 pub is-addressed-spec : {M : Type 1} → statement M
 is-addressed-spec =
-    tie.close (tie.spec returns is-name-requires returns-2 is-name-requires-2 returns-3)
+    tie.close (tie.spec returns (λ c κs. search needs) returns-2 (λ c κs. search needs) returns-3)

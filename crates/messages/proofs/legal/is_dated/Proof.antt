@@ -12,9 +12,6 @@ use borrow.Author.Needs.{needs}
 use Rattle.messages.proofs.legal.is_dated.Statement.{statement}
 use Rattle.messages.proofs.legal.is_dated.Tie as tie
 
-is-count-requires : tie.Need-is-count-requires
-is-count-requires c κs = search needs
-
 returns : tie.Need-returns
 unfolding dated-legal
 returns c =
@@ -29,9 +26,6 @@ returns-2 c =
     let h = sym (v .before .is-count .ensures) ∙ not-false _ (v .if1 .left) in
     rw (nonempty-none (v .before .before .before .args .edk .now) (omega arith), h)
 
-is-run-requires : tie.Need-is-run-requires
-is-run-requires c κs = search needs
-
 returns-3 : tie.Need-returns-3
 unfolding dated-legal
 returns-3 c =
@@ -41,4 +35,4 @@ returns-3 c =
     rw (nonempty-some d (omega arith), h) (c .is-run .ensures ∙ sym (and-yes (is-run 0 12 12 d)))
 
 pub is-dated-spec : {M : Type 1} → statement M
-is-dated-spec = tie.close (tie.spec is-count-requires returns returns-2 is-run-requires returns-3)
+is-dated-spec = tie.close (tie.spec (λ c κs. search needs) returns returns-2 (λ c κs. search needs) returns-3)

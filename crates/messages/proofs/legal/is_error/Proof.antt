@@ -16,9 +16,6 @@ returns-2 c =
     let n = c .before .before .args .letters in
     rw (le-leb 1 n (omega arith), lt-leb n 511 (omega arith))
 
-are-counts-requires : tie.Need-are-counts-requires
-are-counts-requires c κs = search needs
-
 returns-3 : tie.Need-returns-3
 unfolding error-legal
 returns-3 c =
@@ -26,4 +23,4 @@ returns-3 c =
     rw (le-leb 1 n (omega arith), le-leb n 511 (omega arith)) (c .are-counts .ensures)
 
 pub is-error-spec : {M : Type 1} → statement M
-is-error-spec = tie.close (tie.spec returns returns-2 are-counts-requires returns-3)
+is-error-spec = tie.close (tie.spec returns returns-2 (λ c κs. search needs) returns-3)

@@ -7,18 +7,12 @@ use borrow.Author.Needs.{needs}
 use Rattle.messages.proofs.legal.is_kd.Statement.{statement}
 use Rattle.messages.proofs.legal.is_kd.Tie as tie
 
-is-maybe-name-requires : tie.Need-is-maybe-name-requires
-is-maybe-name-requires c κs = search needs
-
 returns : tie.Need-returns
 unfolding kd-legal
 returns c =
     let s = c .before .before .before .before in
     let h = sym (c .before .is-maybe-name .ensures) ∙ not-true _ (c .if1 .taken) in
     rw (lt-ltb (s .args .sealed) (16 ^ 16) (s .fits .sealed .fits), h)
-
-is-maybe-name-requires-2 : tie.Need-is-maybe-name-requires-2
-is-maybe-name-requires-2 c κs = search needs
 
 returns-2 : tie.Need-returns-2
 unfolding kd-legal
@@ -29,4 +23,4 @@ returns-2 c =
     rw (lt-ltb (s .args .sealed) (16 ^ 16) (s .fits .sealed .fits), h) (c .is-maybe-name2 .ensures)
 
 pub is-kd-spec : {M : Type 1} → statement M
-is-kd-spec = tie.close (tie.spec is-maybe-name-requires returns is-maybe-name-requires-2 returns-2)
+is-kd-spec = tie.close (tie.spec (λ c κs. search needs) returns (λ c κs. search needs) returns-2)

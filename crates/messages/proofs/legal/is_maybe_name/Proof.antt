@@ -14,13 +14,10 @@ returns c =
     let e = nonempty-none (c .before .before .args .name .now) (omega arith) in
     ap (λ (o : Option Text). legal-name o) (sym e)
 
-is-name-requires : tie.Need-is-name-requires
-is-name-requires c κs = search needs
-
 returns-2 : tie.Need-returns-2
 returns-2 c =
     let e = nonempty-some (c .before .before .before .args .name .now) (omega arith) in
     c .is-name .ensures ∙ ap (λ (o : Option Text). legal-name o) (sym e)
 
 pub is-maybe-name-spec : {M : Type 1} → statement M
-is-maybe-name-spec = tie.close (tie.spec returns is-name-requires returns-2)
+is-maybe-name-spec = tie.close (tie.spec returns (λ c κs. search needs) returns-2)

@@ -6,41 +6,8 @@ use borrow.Author.Needs.{needs}
 use Rattle.messages.proofs.whole.put_counts.Statement.{statement}
 use Rattle.messages.proofs.whole.put_counts.Tie as tie
 
-enum-told : tie.Need-enum-told
-enum-told c = search needs
-
-enum-known-counts : tie.Need-enum-known-counts
-enum-known-counts c = search needs
-
-slice-aggregate-put-count : tie.Need-slice-aggregate-put-count
-slice-aggregate-put-count c = search needs
-
-put-count-requires : tie.Need-put-count-requires
-put-count-requires c κs = search needs
-
-sub-put-count : tie.Need-sub-put-count
-sub-put-count c = search needs
-
-part-put-count-start : tie.Need-part-put-count-start
-part-put-count-start c = search needs
-
-part-put-count-end : tie.Need-part-put-count-end
-part-put-count-end c = search needs
-
-slice-aggregate-put-count-2 : tie.Need-slice-aggregate-put-count-2
-slice-aggregate-put-count-2 c = search needs
-
-put-count-requires-2 : tie.Need-put-count-requires-2
-put-count-requires-2 c κs = search needs
-
-add-result : tie.Need-add-result
-add-result c = search needs
-
 returns : tie.Need-returns
 returns c = laid-as (no-counts (c .enum-told .given .1)) (laid-nothing (c .before .before .before .args .rest .now))
-
-same-length : tie.Need-same-length
-same-length c = search needs
 
 returns-2 : tie.Need-returns-2
 returns-2 c =
@@ -55,16 +22,16 @@ pub put-counts-spec : {M : Type 1} → statement M
 put-counts-spec =
     tie.close
     (tie.spec
-    enum-told
-    enum-known-counts
-    slice-aggregate-put-count
-    put-count-requires
-    sub-put-count
-    part-put-count-start
-    part-put-count-end
-    slice-aggregate-put-count-2
-    put-count-requires-2
-    add-result
+    (λ c. search needs)
+    (λ c. search needs)
+    (λ c. search needs)
+    (λ c κs. search needs)
+    (λ c. search needs)
+    (λ c. search needs)
+    (λ c. search needs)
+    (λ c. search needs)
+    (λ c κs. search needs)
+    (λ c. search needs)
     returns
-    same-length
+    (λ c. search needs)
     returns-2)

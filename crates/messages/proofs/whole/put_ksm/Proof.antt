@@ -6,9 +6,6 @@ use borrow.Author.Needs.{needs}
 use Rattle.messages.proofs.whole.put_ksm.Statement.{statement}
 use Rattle.messages.proofs.whole.put_ksm.Tie as tie
 
-put-covered-requires : tie.Need-put-covered-requires
-put-covered-requires c κs = search needs
-
 seal-requires : tie.Need-seal-requires
 unfolding ksm-reading
 seal-requires c κs =
@@ -18,9 +15,6 @@ seal-requires c κs =
     let q = ksm-sealable (a .rcv .now) (a .org .now) (a .keys) (a .idk1 .now) (a .idk2 .now) (a .second-idk1 .now)
     (a .second-idk2 .now) (a .vector) (a .edk .now) (a .ctp) in
     seal-ready q (a .mac-key) (v .put-covered .ensures) (s .pre .1)
-
-same-length : tie.Need-same-length
-same-length c = search needs
 
 returns : tie.Need-returns
 unfolding ksm-reading
@@ -34,4 +28,4 @@ returns c =
     laid-sealed q (a .mac-key) (v .put-covered .ensures) (s .pre .1) (w .seal .ensures)
 
 pub put-ksm-spec : {M : Type 1} → statement M
-put-ksm-spec = tie.close (tie.spec put-covered-requires seal-requires same-length returns)
+put-ksm-spec = tie.close (tie.spec (λ c κs. search needs) seal-requires (λ c. search needs) returns)

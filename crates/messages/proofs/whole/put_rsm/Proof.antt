@@ -7,12 +7,6 @@ use borrow.Author.Needs.{needs}
 use Rattle.messages.proofs.whole.put_rsm.Statement.{statement}
 use Rattle.messages.proofs.whole.put_rsm.Tie as tie
 
-slice-aggregate-put-head : tie.Need-slice-aggregate-put-head
-slice-aggregate-put-head c = search needs
-
-put-head-requires : tie.Need-put-head-requires
-put-head-requires c κs = search needs
-
 seal-requires : tie.Need-seal-requires
 unfolding rsm-reading
 seal-requires c κs =
@@ -21,9 +15,6 @@ seal-requires c κs =
     let a = s .args in
     seal-ready (rsm-sealable (a .rcv .now) (a .org .now)) (a .mac-key)
     (laid-as (rsm-text (a .rcv .now) (a .org .now)) (v .put-head .ensures)) (s .pre)
-
-same-length : tie.Need-same-length
-same-length c = search needs
 
 returns : tie.Need-returns
 unfolding rsm-reading
@@ -38,4 +29,4 @@ returns c =
 pub put-rsm-spec : {M : Type 1} → statement M
 put-rsm-spec =
     tie.close
-    (tie.spec slice-aggregate-put-head put-head-requires seal-requires same-length returns)
+    (tie.spec (λ c. search needs) (λ c κs. search needs) seal-requires (λ c. search needs) returns)

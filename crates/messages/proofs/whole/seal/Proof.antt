@@ -12,54 +12,6 @@ use borrow.Author.Needs.{needs}
 use Rattle.messages.proofs.whole.seal.Statement.{statement}
 use Rattle.messages.proofs.whole.seal.Tie as tie
 
-sub-mac : tie.Need-sub-mac
-sub-mac c = search needs
-
-part-mac-start : tie.Need-part-mac-start
-part-mac-start c = search needs
-
-part-mac-end : tie.Need-part-mac-end
-part-mac-end c = search needs
-
-mac-requires : tie.Need-mac-requires
-mac-requires c κs = search needs
-
-sub-put-mac : tie.Need-sub-put-mac
-sub-put-mac c = search needs
-
-part-put-mac-start : tie.Need-part-put-mac-start
-part-put-mac-start c = search needs
-
-part-put-mac-end : tie.Need-part-put-mac-end
-part-put-mac-end c = search needs
-
-put-mac-requires : tie.Need-put-mac-requires
-put-mac-requires c κs = search needs
-
-add-a : tie.Need-add-a
-add-a c = search needs
-
-sub-put-text : tie.Need-sub-put-text
-sub-put-text c = search needs
-
-part-put-text-start : tie.Need-part-put-text-start
-part-put-text-start c = search needs
-
-part-put-text-end : tie.Need-part-put-text-end
-part-put-text-end c = search needs
-
-slice-aggregate-put-text : tie.Need-slice-aggregate-put-text
-slice-aggregate-put-text c = search needs
-
-put-text-requires : tie.Need-put-text-requires
-put-text-requires c κs = search needs
-
-add-result : tie.Need-add-result
-add-result c = search needs
-
-same-length : tie.Need-same-length
-same-length c = search needs
-
 returns : tie.Need-returns
 unfolding sealed-front
 returns c =
@@ -78,20 +30,20 @@ pub seal-spec : {M : Type 1} → statement M
 seal-spec =
     tie.close
     (tie.spec
-    sub-mac
-    part-mac-start
-    part-mac-end
-    mac-requires
-    sub-put-mac
-    part-put-mac-start
-    part-put-mac-end
-    put-mac-requires
-    add-a
-    sub-put-text
-    part-put-text-start
-    part-put-text-end
-    slice-aggregate-put-text
-    put-text-requires
-    add-result
-    same-length
+    (λ c. search needs)
+    (λ c. search needs)
+    (λ c. search needs)
+    (λ c κs. search needs)
+    (λ c. search needs)
+    (λ c. search needs)
+    (λ c. search needs)
+    (λ c κs. search needs)
+    (λ c. search needs)
+    (λ c. search needs)
+    (λ c. search needs)
+    (λ c. search needs)
+    (λ c. search needs)
+    (λ c κs. search needs)
+    (λ c. search needs)
+    (λ c. search needs)
     returns)

@@ -4,15 +4,9 @@ use Rattle.partner.specs.Changes.{accepted}
 use Rattle.partner.proofs.changes.accepted.Statement.{statement}
 use Rattle.partner.proofs.changes.accepted.Tie as tie
 
-risen-requires : tie.Need-risen-requires
-risen-requires c κs = search needs
-
-receiving-requires : tie.Need-receiving-requires
-receiving-requires c κs = search needs
-
 returns : tie.Need-returns
 unfolding accepted
 returns c = cc
 
 pub accepted-spec : {M : Type 1} → statement M
-accepted-spec = tie.close (tie.spec risen-requires receiving-requires returns)
+accepted-spec = tie.close (tie.spec (λ c κs. search needs) (λ c κs. search needs) returns)

@@ -4,18 +4,9 @@ use Rattle.partner.specs.Changes.{failed}
 use Rattle.partner.proofs.changes.failed.Statement.{statement}
 use Rattle.partner.proofs.changes.failed.Tie as tie
 
-larger-requires : tie.Need-larger-requires
-larger-requires c κs = search needs
-
-no-keys-requires : tie.Need-no-keys-requires
-no-keys-requires c κs = search needs
-
-sending-requires : tie.Need-sending-requires
-sending-requires c κs = search needs
-
 returns : tie.Need-returns
 unfolding failed
 returns c = cc
 
 pub failed-spec : {M : Type 1} → statement M
-failed-spec = tie.close (tie.spec larger-requires no-keys-requires sending-requires returns)
+failed-spec = tie.close (tie.spec (λ c κs. search needs) (λ c κs. search needs) (λ c κs. search needs) returns)

@@ -4,15 +4,9 @@ use Rattle.partner.specs.Changes.{given-up}
 use Rattle.partner.proofs.changes.given_up.Statement.{statement}
 use Rattle.partner.proofs.changes.given_up.Tie as tie
 
-no-keys-requires : tie.Need-no-keys-requires
-no-keys-requires c κs = search needs
-
-sending-requires : tie.Need-sending-requires
-sending-requires c κs = search needs
-
 returns : tie.Need-returns
 unfolding given-up
 returns c = cc
 
 pub given-up-spec : {M : Type 1} → statement M
-given-up-spec = tie.close (tie.spec no-keys-requires sending-requires returns)
+given-up-spec = tie.close (tie.spec (λ c κs. search needs) (λ c κs. search needs) returns)

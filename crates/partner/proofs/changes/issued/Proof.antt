@@ -4,15 +4,9 @@ use Rattle.partner.specs.Changes.{issued}
 use Rattle.partner.proofs.changes.issued.Statement.{statement}
 use Rattle.partner.proofs.changes.issued.Tie as tie
 
-risen-requires : tie.Need-risen-requires
-risen-requires c κs = search needs
-
-sending-requires : tie.Need-sending-requires
-sending-requires c κs = search needs
-
 returns : tie.Need-returns
 unfolding issued
 returns c = cc
 
 pub issued-spec : {M : Type 1} → statement M
-issued-spec = tie.close (tie.spec risen-requires sending-requires returns)
+issued-spec = tie.close (tie.spec (λ c κs. search needs) (λ c κs. search needs) returns)

@@ -5,9 +5,6 @@ use Rattle.partner.specs.Entry.{risen}
 use Rattle.partner.proofs.changes.risen.Statement.{statement}
 use Rattle.partner.proofs.changes.risen.Tie as tie
 
-add-result : tie.Need-add-result
-add-result c = search needs
-
 returns : tie.Need-returns
 unfolding risen
 returns c = simp (lt-ltb _ _ (c .if1 .taken))
@@ -17,4 +14,4 @@ unfolding risen
 returns-2 c = simp (le-ltb _ _ (c .if1 .left))
 
 pub risen-spec : {M : Type 1} → statement M
-risen-spec = tie.close (tie.spec add-result returns returns-2)
+risen-spec = tie.close (tie.spec (λ c. search needs) returns returns-2)

@@ -4,12 +4,9 @@ use Rattle.partner.specs.Changes.{settled}
 use Rattle.partner.proofs.changes.settled.Statement.{statement}
 use Rattle.partner.proofs.changes.settled.Tie as tie
 
-sending-requires : tie.Need-sending-requires
-sending-requires c κs = search needs
-
 returns : tie.Need-returns
 unfolding settled
 returns c = cc
 
 pub settled-spec : {M : Type 1} → statement M
-settled-spec = tie.close (tie.spec sending-requires returns)
+settled-spec = tie.close (tie.spec (λ c κs. search needs) returns)

@@ -6,20 +6,8 @@ use borrow.Author.Needs.{needs}
 use Rattle.reader.proofs.find.covered.Statement.{statement}
 use Rattle.reader.proofs.find.covered.Tie as tie
 
-front-requires : tie.Need-front-requires
-front-requires c κs = search needs
-
 returns : tie.Need-returns
 returns c = c .front .ensures ∙ sym (covered-short (c .before .before .before .args .text .now) (c .before .if1 .taken))
-
-behind-requires : tie.Need-behind-requires
-behind-requires c κs = search needs
-
-sub-front : tie.Need-sub-front
-sub-front c = search needs
-
-front-requires-2 : tie.Need-front-requires-2
-front-requires-2 c κs = search needs
 
 returns-2 : tie.Need-returns-2
 unfolding covered
@@ -28,4 +16,4 @@ returns-2 c = cc
 pub covered-spec : {M : Type 1} → statement M
 covered-spec =
     tie.close
-    (tie.spec front-requires returns behind-requires sub-front front-requires-2 returns-2)
+    (tie.spec (λ c κs. search needs) returns (λ c κs. search needs) (λ c. search needs) (λ c κs. search needs) returns-2)

@@ -4,15 +4,9 @@ use borrow.Author.Needs.{needs}
 use Rattle.reader.proofs.find.first.Statement.{statement}
 use Rattle.reader.proofs.find.first.Tie as tie
 
-after-head-requires : tie.Need-after-head-requires
-after-head-requires c κs = search needs
-
-behind-requires : tie.Need-behind-requires
-behind-requires c κs = search needs
-
 returns : tie.Need-returns
 unfolding first
 returns c = cc
 
 pub first-spec : {M : Type 1} → statement M
-first-spec = tie.close (tie.spec after-head-requires behind-requires returns)
+first-spec = tie.close (tie.spec (λ c κs. search needs) (λ c κs. search needs) returns)

@@ -4,15 +4,9 @@ use borrow.Author.Needs.{needs}
 use Rattle.reader.proofs.find.idk1.Statement.{statement}
 use Rattle.reader.proofs.find.idk1.Tie as tie
 
-names-requires : tie.Need-names-requires
-names-requires c κs = search needs
-
-front-requires : tie.Need-front-requires
-front-requires c κs = search needs
-
 returns : tie.Need-returns
 unfolding idk1
 returns c = cc
 
 pub idk1-spec : {M : Type 1} → statement M
-idk1-spec = tie.close (tie.spec names-requires front-requires returns)
+idk1-spec = tie.close (tie.spec (λ c κs. search needs) (λ c κs. search needs) returns)

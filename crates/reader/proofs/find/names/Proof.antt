@@ -6,16 +6,10 @@ use borrow.Author.Needs.{needs}
 use Rattle.reader.proofs.find.names.Statement.{statement}
 use Rattle.reader.proofs.find.names.Tie as tie
 
-behind-requires : tie.Need-behind-requires
-behind-requires c κs = search needs
-
 returns : tie.Need-returns
 returns c =
     let a = c .before .before .before .args in c .behind .ensures ∙ sym (names-when (a .kd)
     (a .s .now) true (c .before .if1 .taken))
-
-behind-requires-2 : tie.Need-behind-requires-2
-behind-requires-2 c κs = search needs
 
 returns-2 : tie.Need-returns-2
 returns-2 c =
@@ -23,4 +17,4 @@ returns-2 c =
     (a .s .now) false (c .before .if1 .left))
 
 pub names-spec : {M : Type 1} → statement M
-names-spec = tie.close (tie.spec behind-requires returns behind-requires-2 returns-2)
+names-spec = tie.close (tie.spec (λ c κs. search needs) returns (λ c κs. search needs) returns-2)

@@ -4,15 +4,9 @@ use borrow.Author.Needs.{needs}
 use Rattle.reader.proofs.find.rcv.Statement.{statement}
 use Rattle.reader.proofs.find.rcv.Tie as tie
 
-behind-requires : tie.Need-behind-requires
-behind-requires c κs = search needs
-
-front-requires : tie.Need-front-requires
-front-requires c κs = search needs
-
 returns : tie.Need-returns
 unfolding rcv
 returns c = cc
 
 pub rcv-spec : {M : Type 1} → statement M
-rcv-spec = tie.close (tie.spec behind-requires front-requires returns)
+rcv-spec = tie.close (tie.spec (λ c κs. search needs) (λ c κs. search needs) returns)

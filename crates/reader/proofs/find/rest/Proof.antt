@@ -4,15 +4,9 @@ use borrow.Author.Needs.{needs}
 use Rattle.reader.proofs.find.rest.Statement.{statement}
 use Rattle.reader.proofs.find.rest.Tie as tie
 
-after-head-requires : tie.Need-after-head-requires
-after-head-requires c κs = search needs
-
-front-requires : tie.Need-front-requires
-front-requires c κs = search needs
-
 returns : tie.Need-returns
 unfolding rest
 returns c = cc
 
 pub rest-spec : {M : Type 1} → statement M
-rest-spec = tie.close (tie.spec after-head-requires front-requires returns)
+rest-spec = tie.close (tie.spec (λ c κs. search needs) (λ c κs. search needs) returns)

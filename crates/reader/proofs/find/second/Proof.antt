@@ -4,18 +4,9 @@ use borrow.Author.Needs.{needs}
 use Rattle.reader.proofs.find.second.Statement.{statement}
 use Rattle.reader.proofs.find.second.Tie as tie
 
-first-requires : tie.Need-first-requires
-first-requires c κs = search needs
-
-after-key-requires : tie.Need-after-key-requires
-after-key-requires c κs = search needs
-
-behind-requires : tie.Need-behind-requires
-behind-requires c κs = search needs
-
 returns : tie.Need-returns
 unfolding second
 returns c = cc
 
 pub second-spec : {M : Type 1} → statement M
-second-spec = tie.close (tie.spec first-requires after-key-requires behind-requires returns)
+second-spec = tie.close (tie.spec (λ c κs. search needs) (λ c κs. search needs) (λ c κs. search needs) returns)

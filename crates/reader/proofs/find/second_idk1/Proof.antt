@@ -3,14 +3,8 @@ use borrow.Author.Needs.{needs}
 use Rattle.reader.proofs.find.second_idk1.Statement.{statement}
 use Rattle.reader.proofs.find.second_idk1.Tie as tie
 
-second-requires : tie.Need-second-requires
-second-requires c κs = search needs
-
-idk1-requires : tie.Need-idk1-requires
-idk1-requires c κs = search needs
-
 returns : tie.Need-returns
 returns c = cc
 
 pub second-idk1-spec : {M : Type 1} → statement M
-second-idk1-spec = tie.close (tie.spec second-requires idk1-requires returns)
+second-idk1-spec = tie.close (tie.spec (λ c κs. search needs) (λ c κs. search needs) returns)

@@ -9,9 +9,6 @@ use borrow.Author.Needs.{needs}
 use Rattle.reader.proofs.options.is_rest.Statement.{statement}
 use Rattle.reader.proofs.options.is_rest.Tie as tie
 
-is-text-requires : tie.Need-is-text-requires
-is-text-requires c κs = search needs
-
 returns : tie.Need-returns
 returns c =
     let a = c .before .before .before .args in
@@ -24,12 +21,6 @@ returns-2 c =
     let yes = sym (k .before .is-text .ensures) ∙ not-false _ (k .if1 .left) in
     sym (rest-ends (a .s .now) yes _ (ends-empty (a .s .now) (c .if2 .taken)))
 
-sub-result : tie.Need-sub-result
-sub-result c = search needs
-
-shared-slice-read-result : tie.Need-shared-slice-read-result
-shared-slice-read-result c = search needs
-
 returns-3 : tie.Need-returns-3
 returns-3 c =
     let k = c .before .before in
@@ -40,4 +31,4 @@ returns-3 c =
 pub is-rest-spec : {M : Type 1} → statement M
 is-rest-spec =
     tie.close
-    (tie.spec is-text-requires returns returns-2 sub-result shared-slice-read-result returns-3)
+    (tie.spec (λ c κs. search needs) returns returns-2 (λ c. search needs) (λ c. search needs) returns-3)

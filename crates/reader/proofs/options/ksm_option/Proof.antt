@@ -7,24 +7,12 @@ use borrow.Author.Needs.{needs}
 use Rattle.reader.proofs.options.ksm_option.Statement.{statement}
 use Rattle.reader.proofs.options.ksm_option.Tie as tie
 
-slice-aggregate-starts : tie.Need-slice-aggregate-starts
-slice-aggregate-starts c = search needs
-
-starts-requires : tie.Need-starts-requires
-starts-requires c κs = search needs
-
 returns : tie.Need-returns
 returns c =
     let a = c .before .before .before .before .args in
     let e1 = sym (c .before .starts .ensures) ∙ c .if1 .taken in
     sym (tried ksm-options (drop (a .at) (a .text .now)) _
     (here e1))
-
-slice-aggregate-starts-2 : tie.Need-slice-aggregate-starts-2
-slice-aggregate-starts-2 c = search needs
-
-starts-requires-2 : tie.Need-starts-requires-2
-starts-requires-2 c κs = search needs
 
 returns-2 : tie.Need-returns-2
 returns-2 c =
@@ -34,12 +22,6 @@ returns-2 c =
     let e2 = sym (c .before .starts2 .ensures) ∙ c .if2 .taken in
     sym (tried ksm-options (drop (a .at) (a .text .now)) _
     (skip e1 (here e2)))
-
-slice-aggregate-starts-3 : tie.Need-slice-aggregate-starts-3
-slice-aggregate-starts-3 c = search needs
-
-starts-requires-3 : tie.Need-starts-requires-3
-starts-requires-3 c κs = search needs
 
 returns-3 : tie.Need-returns-3
 returns-3 c =
@@ -51,12 +33,6 @@ returns-3 c =
     let e3 = sym (c .before .starts3 .ensures) ∙ c .if3 .taken in
     sym (tried ksm-options (drop (a .at) (a .text .now)) _
     (skip e1 (skip e2 (here e3))))
-
-slice-aggregate-starts-4 : tie.Need-slice-aggregate-starts-4
-slice-aggregate-starts-4 c = search needs
-
-starts-requires-4 : tie.Need-starts-requires-4
-starts-requires-4 c κs = search needs
 
 returns-4 : tie.Need-returns-4
 returns-4 c =
@@ -70,12 +46,6 @@ returns-4 c =
     let e4 = sym (c .before .starts4 .ensures) ∙ c .if4 .taken in
     sym (tried ksm-options (drop (a .at) (a .text .now)) _
     (skip e1 (skip e2 (skip e3 (here e4)))))
-
-slice-aggregate-starts-5 : tie.Need-slice-aggregate-starts-5
-slice-aggregate-starts-5 c = search needs
-
-starts-requires-5 : tie.Need-starts-requires-5
-starts-requires-5 c κs = search needs
 
 returns-5 : tie.Need-returns-5
 returns-5 c =
@@ -91,12 +61,6 @@ returns-5 c =
     let e5 = sym (c .before .starts5 .ensures) ∙ c .if5 .taken in
     sym (tried ksm-options (drop (a .at) (a .text .now)) _
     (skip e1 (skip e2 (skip e3 (skip e4 (here e5))))))
-
-slice-aggregate-starts-6 : tie.Need-slice-aggregate-starts-6
-slice-aggregate-starts-6 c = search needs
-
-starts-requires-6 : tie.Need-starts-requires-6
-starts-requires-6 c κs = search needs
 
 returns-6 : tie.Need-returns-6
 returns-6 c =
@@ -114,12 +78,6 @@ returns-6 c =
     let e6 = sym (c .before .starts6 .ensures) ∙ c .if6 .taken in
     sym (tried ksm-options (drop (a .at) (a .text .now)) _
     (skip e1 (skip e2 (skip e3 (skip e4 (skip e5 (here e6)))))))
-
-slice-aggregate-starts-7 : tie.Need-slice-aggregate-starts-7
-slice-aggregate-starts-7 c = search needs
-
-starts-requires-7 : tie.Need-starts-requires-7
-starts-requires-7 c κs = search needs
 
 returns-7 : tie.Need-returns-7
 returns-7 c =
@@ -144,24 +102,24 @@ pub ksm-option-spec : {M : Type 1} → statement M
 ksm-option-spec =
     tie.close
     (tie.spec
-    slice-aggregate-starts
-    starts-requires
+    (λ c. search needs)
+    (λ c κs. search needs)
     returns
-    slice-aggregate-starts-2
-    starts-requires-2
+    (λ c. search needs)
+    (λ c κs. search needs)
     returns-2
-    slice-aggregate-starts-3
-    starts-requires-3
+    (λ c. search needs)
+    (λ c κs. search needs)
     returns-3
-    slice-aggregate-starts-4
-    starts-requires-4
+    (λ c. search needs)
+    (λ c κs. search needs)
     returns-4
-    slice-aggregate-starts-5
-    starts-requires-5
+    (λ c. search needs)
+    (λ c κs. search needs)
     returns-5
-    slice-aggregate-starts-6
-    starts-requires-6
+    (λ c. search needs)
+    (λ c κs. search needs)
     returns-6
-    slice-aggregate-starts-7
-    starts-requires-7
+    (λ c. search needs)
+    (λ c κs. search needs)
     returns-7)

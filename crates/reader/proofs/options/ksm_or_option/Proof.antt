@@ -6,21 +6,12 @@ use borrow.Author.Needs.{needs}
 use Rattle.reader.proofs.options.ksm_or_option.Statement.{statement}
 use Rattle.reader.proofs.options.ksm_or_option.Tie as tie
 
-ksm-option-requires : tie.Need-ksm-option-requires
-ksm-option-requires c κs = search needs
-
-rest-at-requires : tie.Need-rest-at-requires
-rest-at-requires c κs = search needs
-
 returns : tie.Need-returns
 returns c =
     let a = c .before .before .before .before .args in
     let u = drop (a .at) (a .text .now) in
     c .rest-at .ensures ∙ sym (ksm-option-rest (a .head) u (sym (c .before .before .ksm-option .ensures)
     ∙ c .before .if1 .taken))
-
-ksm-at-requires : tie.Need-ksm-at-requires
-ksm-at-requires c κs = search needs
 
 returns-2 : tie.Need-returns-2
 returns-2 c =
@@ -31,4 +22,4 @@ returns-2 c =
 
 pub ksm-or-option-spec : {M : Type 1} → statement M
 ksm-or-option-spec =
-    tie.close (tie.spec ksm-option-requires rest-at-requires returns ksm-at-requires returns-2)
+    tie.close (tie.spec (λ c κs. search needs) (λ c κs. search needs) returns (λ c κs. search needs) returns-2)

@@ -7,24 +7,12 @@ use borrow.Author.Needs.{needs}
 use Rattle.reader.proofs.options.rsi_option.Statement.{statement}
 use Rattle.reader.proofs.options.rsi_option.Tie as tie
 
-slice-aggregate-starts : tie.Need-slice-aggregate-starts
-slice-aggregate-starts c = search needs
-
-starts-requires : tie.Need-starts-requires
-starts-requires c κs = search needs
-
 returns : tie.Need-returns
 returns c =
     let a = c .before .before .before .before .args in
     let e1 = sym (c .before .starts .ensures) ∙ c .if1 .taken in
     sym (tried rsi-options (drop (a .at) (a .text .now)) _
     (here e1))
-
-slice-aggregate-starts-2 : tie.Need-slice-aggregate-starts-2
-slice-aggregate-starts-2 c = search needs
-
-starts-requires-2 : tie.Need-starts-requires-2
-starts-requires-2 c κs = search needs
 
 returns-2 : tie.Need-returns-2
 returns-2 c =
@@ -39,9 +27,9 @@ pub rsi-option-spec : {M : Type 1} → statement M
 rsi-option-spec =
     tie.close
     (tie.spec
-    slice-aggregate-starts
-    starts-requires
+    (λ c. search needs)
+    (λ c κs. search needs)
     returns
-    slice-aggregate-starts-2
-    starts-requires-2
+    (λ c. search needs)
+    (λ c κs. search needs)
     returns-2)

@@ -6,21 +6,12 @@ use borrow.Author.Needs.{needs}
 use Rattle.reader.proofs.options.rsi_or_option.Statement.{statement}
 use Rattle.reader.proofs.options.rsi_or_option.Tie as tie
 
-rsi-option-requires : tie.Need-rsi-option-requires
-rsi-option-requires c κs = search needs
-
-rest-at-requires : tie.Need-rest-at-requires
-rest-at-requires c κs = search needs
-
 returns : tie.Need-returns
 returns c =
     let a = c .before .before .before .before .args in
     let u = drop (a .at) (a .text .now) in
     c .rest-at .ensures ∙ sym (rsi-option-rest (a .head) u (sym (c .before .before .rsi-option .ensures)
     ∙ c .before .if1 .taken))
-
-rsi-at-requires : tie.Need-rsi-at-requires
-rsi-at-requires c κs = search needs
 
 returns-2 : tie.Need-returns-2
 returns-2 c =
@@ -31,4 +22,4 @@ returns-2 c =
 
 pub rsi-or-option-spec : {M : Type 1} → statement M
 rsi-or-option-spec =
-    tie.close (tie.spec rsi-option-requires rest-at-requires returns rsi-at-requires returns-2)
+    tie.close (tie.spec (λ c κs. search needs) (λ c κs. search needs) returns (λ c κs. search needs) returns-2)

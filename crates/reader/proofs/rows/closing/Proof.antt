@@ -14,21 +14,6 @@ returns c =
     let a = c .before .before .args in
     sym (ap (λ (u : Text). same u (ascii ")")) (drop-of-length-le (a .text .now) {i = a .at} (omega arith)))
 
-sub-same : tie.Need-sub-same
-sub-same c = search needs
-
-part-same-start : tie.Need-part-same-start
-part-same-start c = search needs
-
-part-same-end : tie.Need-part-same-end
-part-same-end c = search needs
-
-slice-aggregate-same : tie.Need-slice-aggregate-same
-slice-aggregate-same c = search needs
-
-same-requires : tie.Need-same-requires
-same-requires c κs = search needs
-
 returns-2 : tie.Need-returns-2
 returns-2 c =
     let a = c .before .before .before .before .before .args in
@@ -42,9 +27,9 @@ closing-spec =
     tie.close
     (tie.spec
     returns
-    sub-same
-    part-same-start
-    part-same-end
-    slice-aggregate-same
-    same-requires
+    (λ c. search needs)
+    (λ c. search needs)
+    (λ c. search needs)
+    (λ c. search needs)
+    (λ c κs. search needs)
     returns-2)

@@ -25,15 +25,6 @@ counted k =
     number-next count (a .tag .now) (a .text .now) (a .at) (v .0) (v .1 .0) _
     (sym (k .before .before .before .count-field .ensures) ∙ k .before .value .given .1) (omega arith)
 
-count-field-requires : tie.Need-count-field-requires
-count-field-requires c κs = search needs
-
-enum-known-value : tie.Need-enum-known-value
-enum-known-value c = search needs
-
-enum-told : tie.Need-enum-told
-enum-told c = search needs
-
 returns : tie.Need-returns
 unfolding count-at
 returns c =
@@ -62,9 +53,9 @@ pub count-at-spec : {M : Type 1} → statement M
 count-at-spec =
     tie.close
     (tie.spec
-    count-field-requires
-    enum-known-value
-    enum-told
+    (λ c κs. search needs)
+    (λ c. search needs)
+    (λ c. search needs)
     returns
     add-t10
     add-t11

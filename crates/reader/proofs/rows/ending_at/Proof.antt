@@ -23,21 +23,6 @@ edc k =
     check-next (tag EDC) (a .text .now) (a .at) (v .0) (v .1 .0) _
     (sym (k .before .before .before .check-field .ensures) ∙ k .before .value .given .1) (omega arith)
 
-slice-aggregate-check-field : tie.Need-slice-aggregate-check-field
-slice-aggregate-check-field c = search needs
-
-check-field-requires : tie.Need-check-field-requires
-check-field-requires c κs = search needs
-
-enum-known-value : tie.Need-enum-known-value
-enum-known-value c = search needs
-
-enum-told : tie.Need-enum-told
-enum-told c = search needs
-
-closing-requires : tie.Need-closing-requires
-closing-requires c κs = search needs
-
 returns : tie.Need-returns
 returns c =
     let k = c .before .before in
@@ -60,9 +45,6 @@ add-closing c = omega (arith, edc c .within)
 add-closing-2 : tie.Need-add-closing-2
 add-closing-2 c = omega (arith, edc c .within)
 
-closing-requires-2 : tie.Need-closing-requires-2
-closing-requires-2 c κs = search needs
-
 returns-3 : tie.Need-returns-3
 returns-3 c =
     sym (ending-step _ _ (there (edc (c .before .before))) true (sym (c .before .closing2 .ensures) ∙ c .if2 .taken))
@@ -75,15 +57,15 @@ pub ending-at-spec : {M : Type 1} → statement M
 ending-at-spec =
     tie.close
     (tie.spec
-    slice-aggregate-check-field
-    check-field-requires
-    enum-known-value
-    enum-told
-    closing-requires
+    (λ c. search needs)
+    (λ c κs. search needs)
+    (λ c. search needs)
+    (λ c. search needs)
+    (λ c κs. search needs)
     returns
     returns-2
     add-closing
     add-closing-2
-    closing-requires-2
+    (λ c κs. search needs)
     returns-3
     returns-4)

@@ -21,15 +21,6 @@ letters k =
     number-next erf (tag ERF) (a .text .now) (a .at) (v .0) (v .1 .0) _
     (sym (k .before .before .before .letters-field .ensures) ∙ k .before .value .given .1) (omega arith)
 
-letters-field-requires : tie.Need-letters-field-requires
-letters-field-requires c κs = search needs
-
-enum-known-value : tie.Need-enum-known-value
-enum-known-value c = search needs
-
-enum-told : tie.Need-enum-told
-enum-told c = search needs
-
 returns : tie.Need-returns
 returns c =
     let a = c .before .before .before .before .args in
@@ -42,15 +33,6 @@ add-ending-at c = omega (arith, letters c .within)
 
 add-ending-at-2 : tie.Need-add-ending-at-2
 add-ending-at-2 c = omega (arith, letters c .within)
-
-ending-at-requires : tie.Need-ending-at-requires
-ending-at-requires c κs = search needs
-
-enum-known-edc : tie.Need-enum-known-edc
-enum-known-edc c = search needs
-
-enum-told-2 : tie.Need-enum-told-2
-enum-told-2 c = search needs
 
 returns-2 : tie.Need-returns-2
 returns-2 c =
@@ -66,14 +48,14 @@ pub errors-at-spec : {M : Type 1} → statement M
 errors-at-spec =
     tie.close
     (tie.spec
-    letters-field-requires
-    enum-known-value
-    enum-told
+    (λ c κs. search needs)
+    (λ c. search needs)
+    (λ c. search needs)
     returns
     add-ending-at
     add-ending-at-2
-    ending-at-requires
-    enum-known-edc
-    enum-told-2
+    (λ c κs. search needs)
+    (λ c. search needs)
+    (λ c. search needs)
     returns-2
     returns-3)

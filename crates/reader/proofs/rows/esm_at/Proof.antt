@@ -25,36 +25,12 @@ ctr e =
     count-taken (tag CTR) (a .text .now) (e .before .before .before .count-at .result .next)
     (e .before .count-at2 .ensures)
 
-slice-aggregate-count-at : tie.Need-slice-aggregate-count-at
-slice-aggregate-count-at c = search needs
-
-count-at-requires : tie.Need-count-at-requires
-count-at-requires c κs = search needs
-
-slice-aggregate-count-at-2 : tie.Need-slice-aggregate-count-at-2
-slice-aggregate-count-at-2 c = search needs
-
-count-at-requires-2 : tie.Need-count-at-requires-2
-count-at-requires-2 c κs = search needs
-
-errors-at-requires : tie.Need-errors-at-requires
-errors-at-requires c κs = search needs
-
-enum-known-erf : tie.Need-enum-known-erf
-enum-known-erf c = search needs
-
-enum-told : tie.Need-enum-told
-enum-told c = search needs
-
 returns : tie.Need-returns
 returns c =
     let e = c .before .before in
     let a = e .before .before .before .before .before .before .args in
     sym (esm-step (a .head) (a .text .now) (a .at) (ctp e) (ctr e) _ (sym (e .errors-at .ensures)
     ∙ c .enum-told .given .1))
-
-counts-with-p-requires : tie.Need-counts-with-p-requires
-counts-with-p-requires c κs = search needs
 
 returns-2 : tie.Need-returns-2
 returns-2 c =
@@ -78,14 +54,14 @@ pub esm-at-spec : {M : Type 1} → statement M
 esm-at-spec =
     tie.close
     (tie.spec
-    slice-aggregate-count-at
-    count-at-requires
-    slice-aggregate-count-at-2
-    count-at-requires-2
-    errors-at-requires
-    enum-known-erf
-    enum-told
+    (λ c. search needs)
+    (λ c κs. search needs)
+    (λ c. search needs)
+    (λ c κs. search needs)
+    (λ c κs. search needs)
+    (λ c. search needs)
+    (λ c. search needs)
     returns
-    counts-with-p-requires
+    (λ c κs. search needs)
     returns-2
     returns-3)

@@ -22,15 +22,6 @@ key k =
     key-next (a .text .now) (a .at) (v .0) (v .1 .0) _
     (sym (k .before .before .before .key-field .ensures) ∙ k .before .kd .given .1) (omega arith)
 
-key-field-requires : tie.Need-key-field-requires
-key-field-requires c κs = search needs
-
-enum-known-kd : tie.Need-enum-known-kd
-enum-known-kd c = search needs
-
-enum-told : tie.Need-enum-told
-enum-told c = search needs
-
 returns : tie.Need-returns
 unfolding key-at
 returns c =
@@ -55,4 +46,4 @@ returns-2 c =
 pub key-at-spec : {M : Type 1} → statement M
 key-at-spec =
     tie.close
-    (tie.spec key-field-requires enum-known-kd enum-told returns add-t9 add-t10 returns-2)
+    (tie.spec (λ c κs. search needs) (λ c. search needs) (λ c. search needs) returns add-t9 add-t10 returns-2)

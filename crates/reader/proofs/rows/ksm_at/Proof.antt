@@ -30,15 +30,6 @@ second e =
     let a = e .before .before .before .before .before .before .args in
     key-taken (a .text .now) (a .at + e .before .before .kd .given .0 .1 .0 + 4) (e .key-at .ensures)
 
-key-field-requires : tie.Need-key-field-requires
-key-field-requires c κs = search needs
-
-enum-known-kd : tie.Need-enum-known-kd
-enum-known-kd c = search needs
-
-enum-told : tie.Need-enum-told
-enum-told c = search needs
-
 returns : tie.Need-returns
 returns c =
     let a = c .before .before .before .before .args in
@@ -51,18 +42,6 @@ add-key-at c = omega (arith, first c .reads .within)
 
 add-key-at-2 : tie.Need-add-key-at-2
 add-key-at-2 c = omega (arith, first c .reads .within)
-
-key-at-requires : tie.Need-key-at-requires
-key-at-requires c κs = search needs
-
-tail-at-requires : tie.Need-tail-at-requires
-tail-at-requires c κs = search needs
-
-enum-known-iv : tie.Need-enum-known-iv
-enum-known-iv c = search needs
-
-enum-told-2 : tie.Need-enum-told-2
-enum-told-2 c = search needs
 
 returns-2 : tie.Need-returns-2
 returns-2 c =
@@ -81,15 +60,15 @@ pub ksm-at-spec : {M : Type 1} → statement M
 ksm-at-spec =
     tie.close
     (tie.spec
-    key-field-requires
-    enum-known-kd
-    enum-told
+    (λ c κs. search needs)
+    (λ c. search needs)
+    (λ c. search needs)
     returns
     add-key-at
     add-key-at-2
-    key-at-requires
-    tail-at-requires
-    enum-known-iv
-    enum-told-2
+    (λ c κs. search needs)
+    (λ c κs. search needs)
+    (λ c. search needs)
+    (λ c. search needs)
     returns-2
     returns-3)

@@ -29,15 +29,6 @@ size k =
     number-size svr (field SVR .read (drop (a .at) (a .text .now))) (v .0) (v .1 .0)
     (sym (k .before .before .before .service-field .ensures) ∙ k .before .value .given .1)
 
-service-field-requires : tie.Need-service-field-requires
-service-field-requires c κs = search needs
-
-enum-known-value : tie.Need-enum-known-value
-enum-known-value c = search needs
-
-enum-told : tie.Need-enum-told
-enum-told c = search needs
-
 returns : tie.Need-returns
 returns c =
     let a = c .before .before .before .before .args in
@@ -50,15 +41,6 @@ add-ending-at c = omega (arith, service c .within)
 
 add-ending-at-2 : tie.Need-add-ending-at-2
 add-ending-at-2 c = omega (arith, service c .within)
-
-ending-at-requires : tie.Need-ending-at-requires
-ending-at-requires c κs = search needs
-
-enum-known-edc : tie.Need-enum-known-edc
-enum-known-edc c = search needs
-
-enum-told-2 : tie.Need-enum-told-2
-enum-told-2 c = search needs
 
 returns-2 : tie.Need-returns-2
 returns-2 c =
@@ -76,14 +58,14 @@ pub rsi-at-spec : {M : Type 1} → statement M
 rsi-at-spec =
     tie.close
     (tie.spec
-    service-field-requires
-    enum-known-value
-    enum-told
+    (λ c κs. search needs)
+    (λ c. search needs)
+    (λ c. search needs)
     returns
     add-ending-at
     add-ending-at-2
-    ending-at-requires
-    enum-known-edc
-    enum-told-2
+    (λ c κs. search needs)
+    (λ c. search needs)
+    (λ c. search needs)
     returns-2
     returns-3)

@@ -22,18 +22,6 @@ mac k =
     check-next (tag MAC) (a .text .now) (a .at) (v .0) (v .1 .0) _
     (sym (k .before .before .before .check-field .ensures) ∙ k .before .value .given .1) (omega arith)
 
-slice-aggregate-check-field : tie.Need-slice-aggregate-check-field
-slice-aggregate-check-field c = search needs
-
-check-field-requires : tie.Need-check-field-requires
-check-field-requires c κs = search needs
-
-enum-known-value : tie.Need-enum-known-value
-enum-known-value c = search needs
-
-enum-told : tie.Need-enum-told
-enum-told c = search needs
-
 returns : tie.Need-returns
 returns c =
     let a = c .before .before .before .before .before .args in
@@ -47,9 +35,6 @@ add-closing c = omega (arith, mac c .within)
 add-closing-2 : tie.Need-add-closing-2
 add-closing-2 c = omega (arith, mac c .within)
 
-closing-requires : tie.Need-closing-requires
-closing-requires c κs = search needs
-
 returns-2 : tie.Need-returns-2
 returns-2 c =
     sym (rsm-step _ _ _ _ _ (mac (c .before .before)) true (sym (c .before .closing .ensures) ∙ c .if1 .taken))
@@ -62,13 +47,13 @@ pub rsm-at-spec : {M : Type 1} → statement M
 rsm-at-spec =
     tie.close
     (tie.spec
-    slice-aggregate-check-field
-    check-field-requires
-    enum-known-value
-    enum-told
+    (λ c. search needs)
+    (λ c κs. search needs)
+    (λ c. search needs)
+    (λ c. search needs)
     returns
     add-closing
     add-closing-2
-    closing-requires
+    (λ c κs. search needs)
     returns-2
     returns-3)

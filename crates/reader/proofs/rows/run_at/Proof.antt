@@ -24,15 +24,6 @@ run k =
     (a .at) (k .before .length .given .0 .0) _
     (sym (k .before .before .before .run-field .ensures) ∙ k .before .length .given .1) (omega arith)
 
-run-field-requires : tie.Need-run-field-requires
-run-field-requires c κs = search needs
-
-enum-known-length : tie.Need-enum-known-length
-enum-known-length c = search needs
-
-enum-told : tie.Need-enum-told
-enum-told c = search needs
-
 returns : tie.Need-returns
 unfolding run-at
 returns c =
@@ -61,9 +52,9 @@ pub run-at-spec : {M : Type 1} → statement M
 run-at-spec =
     tie.close
     (tie.spec
-    run-field-requires
-    enum-known-length
-    enum-told
+    (λ c κs. search needs)
+    (λ c. search needs)
+    (λ c. search needs)
     returns
     add-t10
     add-t11

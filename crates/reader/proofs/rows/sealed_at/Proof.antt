@@ -36,18 +36,6 @@ checked k =
     check-next (tag MAC) (a .text .now) (a .at + l .before .ctp .given .0 .1 .0 + 5) (v .0) (v .1 .0) _
     (sym (k .before .before .before .check-field .ensures) ∙ k .before .mac .given .1) (omega arith)
 
-slice-aggregate-count-field : tie.Need-slice-aggregate-count-field
-slice-aggregate-count-field c = search needs
-
-count-field-requires : tie.Need-count-field-requires
-count-field-requires c κs = search needs
-
-enum-known-ctp : tie.Need-enum-known-ctp
-enum-known-ctp c = search needs
-
-enum-told : tie.Need-enum-told
-enum-told c = search needs
-
 returns : tie.Need-returns
 returns c =
     let a = c .before .before .before .before .before .args in
@@ -60,18 +48,6 @@ add-next c = omega (arith, counted c .within)
 
 add-next-2 : tie.Need-add-next-2
 add-next-2 c = omega (arith, counted c .within)
-
-slice-aggregate-check-field : tie.Need-slice-aggregate-check-field
-slice-aggregate-check-field c = search needs
-
-check-field-requires : tie.Need-check-field-requires
-check-field-requires c κs = search needs
-
-enum-known-mac : tie.Need-enum-known-mac
-enum-known-mac c = search needs
-
-enum-told-2 : tie.Need-enum-told-2
-enum-told-2 c = search needs
 
 returns-2 : tie.Need-returns-2
 returns-2 c =
@@ -89,9 +65,6 @@ add-closing c = omega (arith, checked c .within)
 add-closing-2 : tie.Need-add-closing-2
 add-closing-2 c = omega (arith, checked c .within)
 
-closing-requires : tie.Need-closing-requires
-closing-requires c κs = search needs
-
 returns-3 : tie.Need-returns-3
 returns-3 c =
     let k = c .before .before in
@@ -108,20 +81,20 @@ pub sealed-at-spec : {M : Type 1} → statement M
 sealed-at-spec =
     tie.close
     (tie.spec
-    slice-aggregate-count-field
-    count-field-requires
-    enum-known-ctp
-    enum-told
+    (λ c. search needs)
+    (λ c κs. search needs)
+    (λ c. search needs)
+    (λ c. search needs)
     returns
     add-next
     add-next-2
-    slice-aggregate-check-field
-    check-field-requires
-    enum-known-mac
-    enum-told-2
+    (λ c. search needs)
+    (λ c κs. search needs)
+    (λ c. search needs)
+    (λ c. search needs)
     returns-2
     add-closing
     add-closing-2
-    closing-requires
+    (λ c κs. search needs)
     returns-3
     returns-4)

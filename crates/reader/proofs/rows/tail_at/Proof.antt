@@ -23,27 +23,6 @@ edk e =
     run-taken 0 12 12 (tag EDK) (a .text .now) (e .before .before .before .run-at .result .next)
     (e .before .run-at2 .ensures)
 
-slice-aggregate-run-at : tie.Need-slice-aggregate-run-at
-slice-aggregate-run-at c = search needs
-
-run-at-requires : tie.Need-run-at-requires
-run-at-requires c κs = search needs
-
-slice-aggregate-run-at-2 : tie.Need-slice-aggregate-run-at-2
-slice-aggregate-run-at-2 c = search needs
-
-run-at-requires-2 : tie.Need-run-at-requires-2
-run-at-requires-2 c κs = search needs
-
-sealed-at-requires : tie.Need-sealed-at-requires
-sealed-at-requires c κs = search needs
-
-enum-known-ctp : tie.Need-enum-known-ctp
-enum-known-ctp c = search needs
-
-enum-told : tie.Need-enum-told
-enum-told c = search needs
-
 returns : tie.Need-returns
 returns c =
     let e = c .before .before in
@@ -60,12 +39,12 @@ pub tail-at-spec : {M : Type 1} → statement M
 tail-at-spec =
     tie.close
     (tie.spec
-    slice-aggregate-run-at
-    run-at-requires
-    slice-aggregate-run-at-2
-    run-at-requires-2
-    sealed-at-requires
-    enum-known-ctp
-    enum-told
+    (λ c. search needs)
+    (λ c κs. search needs)
+    (λ c. search needs)
+    (λ c κs. search needs)
+    (λ c κs. search needs)
+    (λ c. search needs)
+    (λ c. search needs)
     returns
     returns-2)

@@ -7,9 +7,6 @@ use borrow.Author.Needs.{needs}
 use Rattle.receiving.proofs.judging.bad_format.Statement.{statement}
 use Rattle.receiving.proofs.judging.bad_format.Tie as tie
 
-bad-iv-requires : tie.Need-bad-iv-requires
-bad-iv-requires c κs = search needs
-
 returns : tie.Need-returns
 returns c =
     let a = c .before .before .before .before .args in
@@ -21,9 +18,6 @@ returns-2 c =
     no-edk (a .iv .now) (a .edk .now) (a .value) (sym (c .before .before .bad-iv .ensures) ∙ c .before .if1 .left)
     (omega arith)
 
-is-date-requires : tie.Need-is-date-requires
-is-date-requires c κs = search needs
-
 returns-3 : tie.Need-returns-3
 returns-3 c =
     let a = c .before .before .before .before .before .before .args in
@@ -32,4 +26,4 @@ returns-3 c =
     (sym (c .before .before .before .bad-iv .ensures) ∙ c .before .before .if1 .left) (omega arith)
 
 pub bad-format-spec : {M : Type 1} → statement M
-bad-format-spec = tie.close (tie.spec bad-iv-requires returns returns-2 is-date-requires returns-3)
+bad-format-spec = tie.close (tie.spec (λ c κs. search needs) returns returns-2 (λ c κs. search needs) returns-3)

@@ -14,12 +14,6 @@ returns c =
     let a = c .before .args in
     no-iv (a .iv .now) (a .value) (omega arith)
 
-enum-told : tie.Need-enum-told
-enum-told c = search needs
-
-enum-told-2 : tie.Need-enum-told-2
-enum-told-2 c = search needs
-
 returns-2 : tie.Need-returns-2
 returns-2 c =
     let a = c .before .before .before .args in
@@ -31,4 +25,4 @@ returns-3 c =
     ap (λ (v : Value). not (is-value v)) (sym (c .enum-told2 .given .1)) ∙ some-iv (a .iv .now) (a .value) (omega arith)
 
 pub bad-iv-spec : {M : Type 1} → statement M
-bad-iv-spec = tie.close (tie.spec returns enum-told enum-told-2 returns-2 returns-3)
+bad-iv-spec = tie.close (tie.spec returns (λ c. search needs) (λ c. search needs) returns-2 returns-3)

@@ -9,18 +9,6 @@ use borrow.Author.Needs.{needs}
 use Rattle.receiving.proofs.judging.bad_mac.Statement.{statement}
 use Rattle.receiving.proofs.judging.bad_mac.Tie as tie
 
-mac-key-requires : tie.Need-mac-key-requires
-mac-key-requires c κs = search needs
-
-covered-requires : tie.Need-covered-requires
-covered-requires c κs = search needs
-
-mac-requires : tie.Need-mac-requires
-mac-requires c κs = search needs
-
-cast-result : tie.Need-cast-result
-cast-result c = search needs
-
 returns : tie.Need-returns
 unfolding bad-mac
 returns c =
@@ -33,8 +21,8 @@ pub bad-mac-spec : {M : Type 1} → statement M
 bad-mac-spec =
     tie.close
     (tie.spec
-    mac-key-requires
-    covered-requires
-    mac-requires
-    cast-result
+    (λ c κs. search needs)
+    (λ c κs. search needs)
+    (λ c κs. search needs)
+    (λ c. search needs)
     returns)

@@ -13,9 +13,6 @@ use Rattle.receiving.proofs.judging.counts_for.Tie as tie
 chosen : (x y : ℕ) (b : Bool) → b ≡ bad-count x y → cond b (Both x y) Without ≡ counts-between x y
 chosen x y b h = ap (λ (t : Bool). cond t (Both x y) Without) h
 
-bad-count-requires : tie.Need-bad-count-requires
-bad-count-requires c κs = search needs
-
 returns : tie.Need-returns
 returns c =
     let a = c .before .before .args in
@@ -27,4 +24,4 @@ returns-2 c =
     chosen (a .expected) (a .count) _ (sym (c .if1 .left) ∙ c .before .bad-count .ensures)
 
 pub counts-for-spec : {M : Type 1} → statement M
-counts-for-spec = tie.close (tie.spec bad-count-requires returns returns-2)
+counts-for-spec = tie.close (tie.spec (λ c κs. search needs) returns returns-2)

@@ -3,14 +3,8 @@ use borrow.Author.Needs.{needs}
 use Rattle.receiving.proofs.judging.date_of.Statement.{statement}
 use Rattle.receiving.proofs.judging.date_of.Tie as tie
 
-slice-aggregate-copy : tie.Need-slice-aggregate-copy
-slice-aggregate-copy c = search needs
-
-copy-requires : tie.Need-copy-requires
-copy-requires c κs = search needs
-
 returns : tie.Need-returns
 returns c = cc
 
 pub date-of-spec : {M : Type 1} → statement M
-date-of-spec = tie.close (tie.spec slice-aggregate-copy copy-requires returns)
+date-of-spec = tie.close (tie.spec (λ c. search needs) (λ c κs. search needs) returns)

@@ -31,43 +31,16 @@ returns c =
     let a = c .before .before .args in
     iv-empty (listed (a .keys)) (a .w .now) (omega arith)
 
-sub-block : tie.Need-sub-block
-sub-block c = search needs
-
-part-block-start : tie.Need-part-block-start
-part-block-start c = search needs
-
-part-block-end : tie.Need-part-block-end
-part-block-end c = search needs
-
-block-requires : tie.Need-block-requires
-block-requires c κs = search needs
-
-enum-known-value : tie.Need-enum-known-value
-enum-known-value c = search needs
-
-enum-told : tie.Need-enum-told
-enum-told c = search needs
-
 returns-2 : tie.Need-returns-2
 returns-2 c =
     let a = c .before .before .before .before .before .before .args in
     let seen = whole (a .w .now) _ (sym (c .before .before .block .ensures) ∙ c .enum-told .given .1) in
     iv-bad (listed (a .keys)) (a .w .now) (omega arith) (block-none (drop 1 (a .w .now)) seen)
 
-shared-slice-read-if2 : tie.Need-shared-slice-read-if2
-shared-slice-read-if2 c = search needs
-
 returns-3 : tie.Need-returns-3
 returns-3 c =
     let a = c .before .before .before .before .before .before .before .before .before .args in
     iv-plain (listed (a .keys)) (a .w .now) _ (omega arith) (block (c .before .before .before)) (c .if2 .taken)
-
-shared-slice-read-if3 : tie.Need-shared-slice-read-if3
-shared-slice-read-if3 c = search needs
-
-reveal-requires : tie.Need-reveal-requires
-reveal-requires c κs = search needs
 
 returns-4 : tie.Need-returns-4
 returns-4 c =
@@ -86,16 +59,16 @@ iv-value-spec =
     tie.close
     (tie.spec
     returns
-    sub-block
-    part-block-start
-    part-block-end
-    block-requires
-    enum-known-value
-    enum-told
+    (λ c. search needs)
+    (λ c. search needs)
+    (λ c. search needs)
+    (λ c κs. search needs)
+    (λ c. search needs)
+    (λ c. search needs)
     returns-2
-    shared-slice-read-if2
+    (λ c. search needs)
     returns-3
-    shared-slice-read-if3
-    reveal-requires
+    (λ c. search needs)
+    (λ c κs. search needs)
     returns-4
     returns-5)

@@ -17,15 +17,6 @@ first c =
     sym (c .foreign .ensures
     ∙ (λ i. foreign-name (c .before .first-idk2 .ensures i) (c .before .before .bare .ensures i)))
 
-bare-requires : tie.Need-bare-requires
-bare-requires c κs = search needs
-
-first-idk2-requires : tie.Need-first-idk2-requires
-first-idk2-requires c κs = search needs
-
-foreign-requires : tie.Need-foreign-requires
-foreign-requires c κs = search needs
-
 returns : tie.Need-returns
 returns c =
     let a = c .before .before .before .before .before .before .before .before .before .args in
@@ -36,12 +27,6 @@ returns-2 c =
     let f = c .before .before in
     let a = f .before .before .before .before .before .before .before .before .before .args in
     foreign-one (a .e) (a .m) (a .text .now) (first (f .before) ∙ f .if1 .left) (not-true _ (c .if2 .taken))
-
-second-idk2-requires : tie.Need-second-idk2-requires
-second-idk2-requires c κs = search needs
-
-foreign-requires-2 : tie.Need-foreign-requires-2
-foreign-requires-2 c κs = search needs
 
 returns-3 : tie.Need-returns-3
 returns-3 c =
@@ -56,11 +41,11 @@ pub any-foreign-spec : {M : Type 1} → statement M
 any-foreign-spec =
     tie.close
     (tie.spec
-    bare-requires
-    first-idk2-requires
-    foreign-requires
+    (λ c κs. search needs)
+    (λ c κs. search needs)
+    (λ c κs. search needs)
     returns
     returns-2
-    second-idk2-requires
-    foreign-requires-2
+    (λ c κs. search needs)
+    (λ c κs. search needs)
     returns-3)

@@ -9,15 +9,6 @@ use borrow.Author.Needs.{needs}
 use Rattle.receiving.proofs.keys.brought.Statement.{statement}
 use Rattle.receiving.proofs.keys.brought.Tie as tie
 
-first-idk1-requires : tie.Need-first-idk1-requires
-first-idk1-requires c κs = search needs
-
-name-of-requires : tie.Need-name-of-requires
-name-of-requires c κs = search needs
-
-one-key-requires : tie.Need-one-key-requires
-one-key-requires c κs = search needs
-
 returns : tie.Need-returns
 returns c =
     let a = c .before .before .before .before .before .before .args in
@@ -25,15 +16,6 @@ returns c =
     let name = n .name-of .ensures ∙ ap (λ (w : Text). name-of w) (n .before .first-idk1 .ensures) in
     c .one-key .ensures ∙ ap (λ (n : Name). one-key (record { key = a .first; name = n })) name
     ∙ keys-of-one (a .first) (a .second) (a .m) (a .text .now) (not-true _ (c .before .if1 .taken))
-
-second-idk1-requires : tie.Need-second-idk1-requires
-second-idk1-requires c κs = search needs
-
-name-of-requires-2 : tie.Need-name-of-requires-2
-name-of-requires-2 c κs = search needs
-
-two-keys-requires : tie.Need-two-keys-requires
-two-keys-requires c κs = search needs
 
 returns-2 : tie.Need-returns-2
 returns-2 c =
@@ -49,11 +31,11 @@ pub brought-spec : {M : Type 1} → statement M
 brought-spec =
     tie.close
     (tie.spec
-    first-idk1-requires
-    name-of-requires
-    one-key-requires
+    (λ c κs. search needs)
+    (λ c κs. search needs)
+    (λ c κs. search needs)
     returns
-    second-idk1-requires
-    name-of-requires-2
-    two-keys-requires
+    (λ c κs. search needs)
+    (λ c κs. search needs)
+    (λ c κs. search needs)
     returns-2)

@@ -4,15 +4,9 @@ use borrow.Author.Needs.{needs}
 use Rattle.receiving.proofs.keys.foreign.Statement.{statement}
 use Rattle.receiving.proofs.keys.foreign.Tie as tie
 
-name-in-force-requires : tie.Need-name-in-force-requires
-name-in-force-requires c κs = search needs
-
-same-requires : tie.Need-same-requires
-same-requires c κs = search needs
-
 returns : tie.Need-returns
 unfolding foreign-name
 returns c = cc
 
 pub foreign-spec : {M : Type 1} → statement M
-foreign-spec = tie.close (tie.spec name-in-force-requires same-requires returns)
+foreign-spec = tie.close (tie.spec (λ c κs. search needs) (λ c κs. search needs) returns)

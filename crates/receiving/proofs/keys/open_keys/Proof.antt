@@ -59,25 +59,10 @@ second-uneven c =
     let a = f .before .before .before .before .before .before .before .before .args in
     sym (c .uneven2 .ensures ∙ ap (λ (k : ℕ). a .m .second .kd .p && not (odd k)) (second-plain (c .before)))
 
-any-foreign-requires : tie.Need-any-foreign-requires
-any-foreign-requires c κs = search needs
-
 returns : tie.Need-returns
 returns c =
     let a = c .before .before .before .args in
     opened-foreign (a .e) (ksm-in (a .m) (a .text .now)) (sym (c .before .any-foreign .ensures) ∙ c .if1 .taken)
-
-top-of-requires : tie.Need-top-of-requires
-top-of-requires c κs = search needs
-
-working-requires : tie.Need-working-requires
-working-requires c κs = search needs
-
-unseal-requires : tie.Need-unseal-requires
-unseal-requires c κs = search needs
-
-uneven-requires : tie.Need-uneven-requires
-uneven-requires c κs = search needs
 
 returns-2 : tie.Need-returns-2
 returns-2 c =
@@ -93,12 +78,6 @@ returns-3 c =
     ap (λ (k : ℕ). Keys k 0) (first-plain (even .before .before))
     ∙ open-one (a .e) (a .m) (a .text .now) (ours own) (first-uneven (even .before) ∙ even .if2 .left)
     (not-true _ (c .if3 .taken))
-
-unseal-requires-2 : tie.Need-unseal-requires-2
-unseal-requires-2 c κs = search needs
-
-uneven-requires-2 : tie.Need-uneven-requires-2
-uneven-requires-2 c κs = search needs
 
 returns-4 : tie.Need-returns-4
 returns-4 c =
@@ -123,15 +102,15 @@ pub open-keys-spec : {M : Type 1} → statement M
 open-keys-spec =
     tie.close
     (tie.spec
-    any-foreign-requires
+    (λ c κs. search needs)
     returns
-    top-of-requires
-    working-requires
-    unseal-requires
-    uneven-requires
+    (λ c κs. search needs)
+    (λ c κs. search needs)
+    (λ c κs. search needs)
+    (λ c κs. search needs)
     returns-2
     returns-3
-    unseal-requires-2
-    uneven-requires-2
+    (λ c κs. search needs)
+    (λ c κs. search needs)
     returns-4
     returns-5)

@@ -9,24 +9,6 @@ use borrow.Author.Needs.{needs}
 use Rattle.receiving.proofs.replies.confirm.Statement.{statement}
 use Rattle.receiving.proofs.replies.confirm.Tie as tie
 
-data-keys-requires : tie.Need-data-keys-requires
-data-keys-requires c κs = search needs
-
-mac-key-requires : tie.Need-mac-key-requires
-mac-key-requires c κs = search needs
-
-bare-requires : tie.Need-bare-requires
-bare-requires c κs = search needs
-
-write-rsm-requires : tie.Need-write-rsm-requires
-write-rsm-requires c κs = search needs
-
-length-of-requires : tie.Need-length-of-requires
-length-of-requires c κs = search needs
-
-same-length : tie.Need-same-length
-same-length c = search needs
-
 returns : tie.Need-returns
 returns c =
     let w = c .before .before .before in
@@ -46,10 +28,10 @@ pub confirm-spec : {M : Type 1} → statement M
 confirm-spec =
     tie.close
     (tie.spec
-    data-keys-requires
-    mac-key-requires
-    bare-requires
-    write-rsm-requires
-    length-of-requires
-    same-length
+    (λ c κs. search needs)
+    (λ c κs. search needs)
+    (λ c κs. search needs)
+    (λ c κs. search needs)
+    (λ c κs. search needs)
+    (λ c. search needs)
     returns)

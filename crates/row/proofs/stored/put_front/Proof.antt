@@ -14,30 +14,9 @@ use Rattle.row.proofs.Laying.{front-is}
 use Rattle.row.proofs.stored.put_front.Statement.{statement}
 use Rattle.row.proofs.stored.put_front.Tie as tie
 
-name-of-requires : tie.Need-name-of-requires
-name-of-requires c κs = search needs
-
-sub-copy : tie.Need-sub-copy
-sub-copy c = search needs
-
-part-front-start : tie.Need-part-front-start
-part-front-start c = search needs
-
-part-front-end : tie.Need-part-front-end
-part-front-end c = search needs
-
-copy-requires : tie.Need-copy-requires
-copy-requires c κs = search needs
-
 slice-aggregate-copy : tie.Need-slice-aggregate-copy
 slice-aggregate-copy c =
     omega (arith, length-append (c .before .before .before .copy .last .0) [], c .before .before .before .copy .kept .0)
-
-copy-requires-2 : tie.Need-copy-requires-2
-copy-requires-2 c κs = search needs
-
-same-length : tie.Need-same-length
-same-length c = search needs
 
 returns : tie.Need-returns
 returns c =
@@ -54,12 +33,12 @@ pub put-front-spec : {M : Type 1} → statement M
 put-front-spec =
     tie.close
     (tie.spec
-    name-of-requires
-    sub-copy
-    part-front-start
-    part-front-end
-    copy-requires
+    (λ c κs. search needs)
+    (λ c. search needs)
+    (λ c. search needs)
+    (λ c. search needs)
+    (λ c κs. search needs)
     slice-aggregate-copy
-    copy-requires-2
-    same-length
+    (λ c κs. search needs)
+    (λ c. search needs)
     returns)

@@ -13,15 +13,6 @@ use Rattle.row.proofs.Laying.{entry-held, empty-record, partner-record}
 use Rattle.row.proofs.stored.put_record.Statement.{statement}
 use Rattle.row.proofs.stored.put_record.Tie as tie
 
-is-empty-requires : tie.Need-is-empty-requires
-is-empty-requires c κs = search needs
-
-fill-requires : tie.Need-fill-requires
-fill-requires c κs = search needs
-
-same-length : tie.Need-same-length
-same-length c = search needs
-
 returns : tie.Need-returns
 returns c =
     let a = c .before .before .before .before .before .before .before .args in
@@ -29,30 +20,12 @@ returns c =
     let f = c .before .before .fill .ensures in
     wrote-as (sym k) (wrote-copies 1 0 (a .rest .now) (subst (λ (t : Text). length t ≤ length (a .rest .now)) k (c .before .before .before .before .before .before .before .pre)) (f .0) (f .1))
 
-fill-requires-2 : tie.Need-fill-requires-2
-fill-requires-2 c κs = search needs
-
-sub-put-entry : tie.Need-sub-put-entry
-sub-put-entry c = search needs
-
-part-put-entry-start : tie.Need-part-put-entry-start
-part-put-entry-start c = search needs
-
-part-put-entry-end : tie.Need-part-put-entry-end
-part-put-entry-end c = search needs
-
-put-entry-requires : tie.Need-put-entry-requires
-put-entry-requires c κs = search needs
-
 add-result : tie.Need-add-result
 add-result c =
     let filled = c .before .before .before .before .before .before .fill2 in
     let l : Text = take (length (filled .last .0) - filled .result) (drop (filled .result) (filled .last .0)) in
     let small = put-small (c .before .before .before .before .before .before .before .before .before .before .before .args .e) l in
     omega (arith, filled .ensures .1, c .before .before .put-entry .ensures .1)
-
-same-length-2 : tie.Need-same-length-2
-same-length-2 c = search needs
 
 returns-2 : tie.Need-returns-2
 returns-2 c =
@@ -81,15 +54,15 @@ pub put-record-spec : {M : Type 1} → statement M
 put-record-spec =
     tie.close
     (tie.spec
-    is-empty-requires
-    fill-requires
-    same-length
+    (λ c κs. search needs)
+    (λ c κs. search needs)
+    (λ c. search needs)
     returns
-    fill-requires-2
-    sub-put-entry
-    part-put-entry-start
-    part-put-entry-end
-    put-entry-requires
+    (λ c κs. search needs)
+    (λ c. search needs)
+    (λ c. search needs)
+    (λ c. search needs)
+    (λ c κs. search needs)
     add-result
-    same-length-2
+    (λ c. search needs)
     returns-2)

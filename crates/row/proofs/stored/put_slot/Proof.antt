@@ -5,39 +5,15 @@ use borrow.Author.Needs.{needs}
 use Rattle.row.proofs.stored.put_slot.Statement.{statement}
 use Rattle.row.proofs.stored.put_slot.Tie as tie
 
-slot-length-requires : tie.Need-slot-length-requires
-slot-length-requires c κs = search needs
-
 returns : tie.Need-returns
 returns c =
     let a = c .before .before .before .args in
     no-room (a .at) (a .e) (a .out .now) (omega (arith, c .if1 .taken, c .before .slot-length .ensures .0))
 
-sub-if2 : tie.Need-sub-if2
-sub-if2 c = search needs
-
 returns-2 : tie.Need-returns-2
 returns-2 c =
     let a = c .before .before .before .before .args in
     no-room (a .at) (a .e) (a .out .now) (omega (arith, c .if2 .taken, c .before .if1 .left, c .before .before .slot-length .ensures .0))
-
-sub-put-record : tie.Need-sub-put-record
-sub-put-record c = search needs
-
-part-put-record-start : tie.Need-part-put-record-start
-part-put-record-start c = search needs
-
-part-put-record-end : tie.Need-part-put-record-end
-part-put-record-end c = search needs
-
-put-record-requires : tie.Need-put-record-requires
-put-record-requires c κs = search needs
-
-add-result : tie.Need-add-result
-add-result c = search needs
-
-same-length : tie.Need-same-length
-same-length c = search needs
 
 returns-3 : tie.Need-returns-3
 returns-3 c =
@@ -48,14 +24,14 @@ pub put-slot-spec : {M : Type 1} → statement M
 put-slot-spec =
     tie.close
     (tie.spec
-    slot-length-requires
+    (λ c κs. search needs)
     returns
-    sub-if2
+    (λ c. search needs)
     returns-2
-    sub-put-record
-    part-put-record-start
-    part-put-record-end
-    put-record-requires
-    add-result
-    same-length
+    (λ c. search needs)
+    (λ c. search needs)
+    (λ c. search needs)
+    (λ c κs. search needs)
+    (λ c. search needs)
+    (λ c. search needs)
     returns-3)

@@ -8,9 +8,6 @@ use Rattle.row.proofs.Laying.{entry-held, empty-record, partner-record}
 use Rattle.row.proofs.stored.slot_length.Statement.{statement}
 use Rattle.row.proofs.stored.slot_length.Tie as tie
 
-is-empty-requires : tie.Need-is-empty-requires
-is-empty-requires c κs = search needs
-
 returns : tie.Need-returns
 returns c =
     (sym (ap length (empty-record (c .before .before .args .e) (sym (c .before .is-empty .ensures) ∙ c .if1 .taken))), omega arith)
@@ -31,4 +28,4 @@ returns-2 c =
     )
 
 pub slot-length-spec : {M : Type 1} → statement M
-slot-length-spec = tie.close (tie.spec is-empty-requires returns returns-2)
+slot-length-spec = tie.close (tie.spec (λ c κs. search needs) returns returns-2)

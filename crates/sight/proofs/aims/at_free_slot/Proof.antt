@@ -6,9 +6,6 @@ use borrow.Author.Needs.{needs}
 use Rattle.sight.proofs.aims.at_free_slot.Statement.{statement}
 use Rattle.sight.proofs.aims.at_free_slot.Tie as tie
 
-at-partner-requires : tie.Need-at-partner-requires
-at-partner-requires c κs = search needs
-
 returns : tie.Need-returns
 returns c =
     ap {B = Aim} (λ (x : Aim). record {
@@ -22,4 +19,4 @@ returns c =
     }) (c .at-partner .ensures)
 
 pub at-free-slot-spec : {M : Type 1} → statement M
-at-free-slot-spec = tie.close (tie.spec at-partner-requires returns)
+at-free-slot-spec = tie.close (tie.spec (λ c κs. search needs) returns)

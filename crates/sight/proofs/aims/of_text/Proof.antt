@@ -5,45 +5,6 @@ use borrow.Author.Needs.{needs}
 use Rattle.sight.proofs.aims.of_text.Statement.{statement}
 use Rattle.sight.proofs.aims.of_text.Tie as tie
 
-read-requires : tie.Need-read-requires
-read-requires c κs = search needs
-
-enum-known-m : tie.Need-enum-known-m
-enum-known-m c = search needs
-
-originator-requires : tie.Need-originator-requires
-originator-requires c κs = search needs
-
-enum-known-m-2 : tie.Need-enum-known-m-2
-enum-known-m-2 c = search needs
-
-originator-requires-2 : tie.Need-originator-requires-2
-originator-requires-2 c κs = search needs
-
-enum-known-m-3 : tie.Need-enum-known-m-3
-enum-known-m-3 c = search needs
-
-originator-requires-3 : tie.Need-originator-requires-3
-originator-requires-3 c κs = search needs
-
-enum-known-m-4 : tie.Need-enum-known-m-4
-enum-known-m-4 c = search needs
-
-originator-requires-4 : tie.Need-originator-requires-4
-originator-requires-4 c κs = search needs
-
-enum-known-m-5 : tie.Need-enum-known-m-5
-enum-known-m-5 c = search needs
-
-originator-requires-5 : tie.Need-originator-requires-5
-originator-requires-5 c κs = search needs
-
-enum-told : tie.Need-enum-told
-enum-told c = search needs
-
-refused-requires : tie.Need-refused-requires
-refused-requires c κs = search needs
-
 returns : tie.Need-returns
 returns c =
     let a = c .before .before .before .before .before .before .before .args in
@@ -78,19 +39,19 @@ pub of-text-spec : {M : Type 1} → statement M
 of-text-spec =
     tie.close
     (tie.spec
-    read-requires
-    enum-known-m
-    originator-requires
-    enum-known-m-2
-    originator-requires-2
-    enum-known-m-3
-    originator-requires-3
-    enum-known-m-4
-    originator-requires-4
-    enum-known-m-5
-    originator-requires-5
-    enum-told
-    refused-requires
+    (λ c κs. search needs)
+    (λ c. search needs)
+    (λ c κs. search needs)
+    (λ c. search needs)
+    (λ c κs. search needs)
+    (λ c. search needs)
+    (λ c κs. search needs)
+    (λ c. search needs)
+    (λ c κs. search needs)
+    (λ c. search needs)
+    (λ c κs. search needs)
+    (λ c. search needs)
+    (λ c κs. search needs)
     returns
     returns-2
     returns-3

@@ -10,15 +10,6 @@ use Rattle.sight.specs.Aim.{originator}
 use Rattle.sight.proofs.aims.originator.Statement.{statement}
 use Rattle.sight.proofs.aims.originator.Tie as tie
 
-rcv-requires : tie.Need-rcv-requires
-rcv-requires c κs = search needs
-
-same-requires : tie.Need-same-requires
-same-requires c κs = search needs
-
-refused-requires : tie.Need-refused-requires
-refused-requires c κs = search needs
-
 returns : tie.Need-returns
 unfolding originator
 returns c =
@@ -28,12 +19,6 @@ returns c =
     ap (λ (w : Text). same w (a .own .now)) (sym (c .before .before .before .rcv .ensures)) ∙ sym (c .before .before .same .ensures) ∙ not-true _ (c .before .if1 .taken) in
     c .refused .ensures
     ∙ sym (ap (λ (b : Bool). cond (not b) (refused (a .own .now) 2) (at-partner (a .own .now) (parts.org (a .head) (a .text .now)))) k)
-
-org-requires : tie.Need-org-requires
-org-requires c κs = search needs
-
-at-partner-requires : tie.Need-at-partner-requires
-at-partner-requires c κs = search needs
 
 returns-2 : tie.Need-returns-2
 unfolding originator
@@ -49,10 +34,10 @@ pub originator-spec : {M : Type 1} → statement M
 originator-spec =
     tie.close
     (tie.spec
-    rcv-requires
-    same-requires
-    refused-requires
+    (λ c κs. search needs)
+    (λ c κs. search needs)
+    (λ c κs. search needs)
     returns
-    org-requires
-    at-partner-requires
+    (λ c κs. search needs)
+    (λ c κs. search needs)
     returns-2)

@@ -5,12 +5,6 @@ use borrow.Author.Needs.{needs}
 use Rattle.sight.proofs.aims.refused.Statement.{statement}
 use Rattle.sight.proofs.aims.refused.Tie as tie
 
-slice-aggregate-at-partner : tie.Need-slice-aggregate-at-partner
-slice-aggregate-at-partner c = search needs
-
-at-partner-requires : tie.Need-at-partner-requires
-at-partner-requires c κs = search needs
-
 returns : tie.Need-returns
 returns c =
     let a = c .before .before .before .args in
@@ -25,4 +19,4 @@ returns c =
     }) (c .at-partner .ensures)
 
 pub refused-spec : {M : Type 1} → statement M
-refused-spec = tie.close (tie.spec slice-aggregate-at-partner at-partner-requires returns)
+refused-spec = tie.close (tie.spec (λ c. search needs) (λ c κs. search needs) returns)

@@ -11,42 +11,6 @@ use borrow.Author.Needs.{needs}
 use Rattle.sight.proofs.request.key_request_in.Statement.{statement}
 use Rattle.sight.proofs.request.key_request_in.Tie as tie
 
-add-flags : tie.Need-add-flags
-add-flags c = search needs
-
-add-name : tie.Need-add-name
-add-name c = search needs
-
-add-end : tie.Need-add-end
-add-end c = search needs
-
-sub-number : tie.Need-sub-number
-sub-number c = search needs
-
-part-number-start : tie.Need-part-number-start
-part-number-start c = search needs
-
-part-number-end : tie.Need-part-number-end
-part-number-end c = search needs
-
-number-requires : tie.Need-number-requires
-number-requires c κs = search needs
-
-shared-slice-read-t12 : tie.Need-shared-slice-read-t12
-shared-slice-read-t12 c = search needs
-
-sub-name-of : tie.Need-sub-name-of
-sub-name-of c = search needs
-
-part-name-of-start : tie.Need-part-name-of-start
-part-name-of-start c = search needs
-
-part-name-of-end : tie.Need-part-name-of-end
-part-name-of-end c = search needs
-
-name-of-requires : tie.Need-name-of-requires
-name-of-requires c κs = search needs
-
 returns : tie.Need-returns
 returns c =
     let a = c .before .before .before .before .before .before .args in
@@ -62,16 +26,16 @@ pub key-request-in-spec : {M : Type 1} → statement M
 key-request-in-spec =
     tie.close
     (tie.spec
-    add-flags
-    add-name
-    add-end
-    sub-number
-    part-number-start
-    part-number-end
-    number-requires
-    shared-slice-read-t12
-    sub-name-of
-    part-name-of-start
-    part-name-of-end
-    name-of-requires
+    (λ c. search needs)
+    (λ c. search needs)
+    (λ c. search needs)
+    (λ c. search needs)
+    (λ c. search needs)
+    (λ c. search needs)
+    (λ c κs. search needs)
+    (λ c. search needs)
+    (λ c. search needs)
+    (λ c. search needs)
+    (λ c. search needs)
+    (λ c κs. search needs)
     returns)

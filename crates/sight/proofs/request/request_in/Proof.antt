@@ -8,17 +8,11 @@ use borrow.Author.Needs.{needs}
 use Rattle.sight.proofs.request.request_in.Statement.{statement}
 use Rattle.sight.proofs.request.request_in.Tie as tie
 
-no-request-requires : tie.Need-no-request-requires
-no-request-requires c κs = search needs
-
 returns : tie.Need-returns
 unfolding request-in
 returns c =
     let s = c .before .before .before .args .s .now in
     c .no-request .ensures ∙ ap (λ (b : Bool). cond b (whole-in s) no-request) (sym (ne-eqb _ _ (c .before .if1 .taken)))
-
-whole-in-requires : tie.Need-whole-in-requires
-whole-in-requires c κs = search needs
 
 returns-2 : tie.Need-returns-2
 unfolding request-in
@@ -27,4 +21,4 @@ returns-2 c =
     c .whole-in .ensures ∙ ap (λ (b : Bool). cond b (whole-in s) no-request) (sym (eq-eqb _ _ (c .before .if1 .left)))
 
 pub request-in-spec : {M : Type 1} → statement M
-request-in-spec = tie.close (tie.spec no-request-requires returns whole-in-requires returns-2)
+request-in-spec = tie.close (tie.spec (λ c κs. search needs) returns (λ c κs. search needs) returns-2)

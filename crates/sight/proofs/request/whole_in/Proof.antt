@@ -9,36 +9,6 @@ use borrow.Author.Needs.{needs}
 use Rattle.sight.proofs.request.whole_in.Statement.{statement}
 use Rattle.sight.proofs.request.whole_in.Tie as tie
 
-shared-slice-read-t3 : tie.Need-shared-slice-read-t3
-shared-slice-read-t3 c = search needs
-
-key-request-in-requires : tie.Need-key-request-in-requires
-key-request-in-requires c κs = search needs
-
-key-request-in-requires-2 : tie.Need-key-request-in-requires-2
-key-request-in-requires-2 c κs = search needs
-
-shared-slice-read-t7 : tie.Need-shared-slice-read-t7
-shared-slice-read-t7 c = search needs
-
-sub-number : tie.Need-sub-number
-sub-number c = search needs
-
-part-number-start : tie.Need-part-number-start
-part-number-start c = search needs
-
-part-number-end : tie.Need-part-number-end
-part-number-end c = search needs
-
-number-requires : tie.Need-number-requires
-number-requires c κs = search needs
-
-shared-slice-read-t14 : tie.Need-shared-slice-read-t14
-shared-slice-read-t14 c = search needs
-
-date-in-requires : tie.Need-date-in-requires
-date-in-requires c κs = search needs
-
 returns : tie.Need-returns
 unfolding whole-in
 returns c =
@@ -60,14 +30,14 @@ pub whole-in-spec : {M : Type 1} → statement M
 whole-in-spec =
     tie.close
     (tie.spec
-    shared-slice-read-t3
-    key-request-in-requires
-    key-request-in-requires-2
-    shared-slice-read-t7
-    sub-number
-    part-number-start
-    part-number-end
-    number-requires
-    shared-slice-read-t14
-    date-in-requires
+    (λ c. search needs)
+    (λ c κs. search needs)
+    (λ c κs. search needs)
+    (λ c. search needs)
+    (λ c. search needs)
+    (λ c. search needs)
+    (λ c. search needs)
+    (λ c κs. search needs)
+    (λ c. search needs)
+    (λ c κs. search needs)
     returns)

@@ -7,19 +7,10 @@ use borrow.Author.Needs.{needs}
 use Rattle.writer.proofs.digits.digit_at.Statement.{statement}
 use Rattle.writer.proofs.digits.digit_at.Tie as tie
 
-mul-y : tie.Need-mul-y
-mul-y c = search needs
-
-shr-y : tie.Need-shr-y
-shr-y c = search needs
-
-digit-requires : tie.Need-digit-requires
-digit-requires c κs = search needs
-
 returns : tie.Need-returns
 returns c =
     let a = c .before .args in
     c .digit .ensures ∙ ap (λ (m : ℕ). digit (a .x / m % 16)) (hex-shift (a .place))
 
 pub digit-at-spec : {M : Type 1} → statement M
-digit-at-spec = tie.close (tie.spec mul-y shr-y digit-requires returns)
+digit-at-spec = tie.close (tie.spec (λ c. search needs) (λ c. search needs) (λ c κs. search needs) returns)

@@ -6,24 +6,6 @@ use borrow.Author.Needs.{needs}
 use Rattle.writer.proofs.digits.put_bare.Statement.{statement}
 use Rattle.writer.proofs.digits.put_bare.Tie as tie
 
-sub-part : tie.Need-sub-part
-sub-part c = search needs
-
-part-part-start : tie.Need-part-part-start
-part-part-start c = search needs
-
-part-part-end : tie.Need-part-part-end
-part-part-end c = search needs
-
-bare-requires : tie.Need-bare-requires
-bare-requires c κs = search needs
-
-put-text-requires : tie.Need-put-text-requires
-put-text-requires c κs = search needs
-
-same-length : tie.Need-same-length
-same-length c = search needs
-
 returns : tie.Need-returns
 returns c =
     let v = c .before .before .before in
@@ -34,10 +16,10 @@ pub put-bare-spec : {M : Type 1} → statement M
 put-bare-spec =
     tie.close
     (tie.spec
-    sub-part
-    part-part-start
-    part-part-end
-    bare-requires
-    put-text-requires
-    same-length
+    (λ c. search needs)
+    (λ c. search needs)
+    (λ c. search needs)
+    (λ c κs. search needs)
+    (λ c κs. search needs)
+    (λ c. search needs)
     returns)

@@ -8,14 +8,8 @@ use Rattle.writer.proofs.digits.put_byte.Tie as tie
 returns : tie.Need-returns
 returns c = laid-full (c .before .args .b) (c .before .args .rest .now) (omega arith)
 
-slice-write-rest : tie.Need-slice-write-rest
-slice-write-rest c = search needs
-
-same-length : tie.Need-same-length
-same-length c = search needs
-
 returns-2 : tie.Need-returns-2
 returns-2 c = laid-byte (c .before .args .b) (c .before .args .rest .now) (omega arith)
 
 pub put-byte-spec : {M : Type 1} → statement M
-put-byte-spec = tie.close (tie.spec returns slice-write-rest same-length returns-2)
+put-byte-spec = tie.close (tie.spec returns (λ c. search needs) (λ c. search needs) returns-2)

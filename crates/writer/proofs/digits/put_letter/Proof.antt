@@ -10,12 +10,6 @@ use borrow.Author.Needs.{needs}
 use Rattle.writer.proofs.digits.put_letter.Statement.{statement}
 use Rattle.writer.proofs.digits.put_letter.Tie as tie
 
-put-byte-requires : tie.Need-put-byte-requires
-put-byte-requires c κs = search needs
-
-same-length : tie.Need-same-length
-same-length c = search needs
-
 returns : tie.Need-returns
 returns c =
     let w = c .before .before in
@@ -30,4 +24,4 @@ returns-2 c =
     laid-as (ap (λ (b : Bool). cond {A = Text} b (a .letter ∷ []) []) (sym e)) (laid-nothing (a .rest .now))
 
 pub put-letter-spec : {M : Type 1} → statement M
-put-letter-spec = tie.close (tie.spec put-byte-requires same-length returns returns-2)
+put-letter-spec = tie.close (tie.spec (λ c κs. search needs) (λ c. search needs) returns returns-2)

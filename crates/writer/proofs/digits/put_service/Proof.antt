@@ -11,18 +11,6 @@ returns c =
     let a = c .before .before .args in
     laid-as (no-service (a .service) (omega arith)) (laid-nothing (a .rest .now))
 
-mul-at : tie.Need-mul-at
-mul-at c = search needs
-
-slice-aggregate-put-bare : tie.Need-slice-aggregate-put-bare
-slice-aggregate-put-bare c = search needs
-
-put-bare-requires : tie.Need-put-bare-requires
-put-bare-requires c κs = search needs
-
-same-length : tie.Need-same-length
-same-length c = search needs
-
 returns-2 : tie.Need-returns-2
 unfolding table
 returns-2 c =
@@ -32,4 +20,4 @@ returns-2 c =
 pub put-service-spec : {M : Type 1} → statement M
 put-service-spec =
     tie.close
-    (tie.spec returns mul-at slice-aggregate-put-bare put-bare-requires same-length returns-2)
+    (tie.spec returns (λ c. search needs) (λ c. search needs) (λ c κs. search needs) (λ c. search needs) returns-2)

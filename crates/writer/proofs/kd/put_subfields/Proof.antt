@@ -6,27 +6,6 @@ use borrow.Author.Needs.{needs}
 use Rattle.writer.proofs.kd.put_subfields.Statement.{statement}
 use Rattle.writer.proofs.kd.put_subfields.Tie as tie
 
-put-two-requires : tie.Need-put-two-requires
-put-two-requires c κs = search needs
-
-sub-put-name : tie.Need-sub-put-name
-sub-put-name c = search needs
-
-part-put-name-start : tie.Need-part-put-name-start
-part-put-name-start c = search needs
-
-part-put-name-end : tie.Need-part-put-name-end
-part-put-name-end c = search needs
-
-put-name-requires : tie.Need-put-name-requires
-put-name-requires c κs = search needs
-
-add-result : tie.Need-add-result
-add-result c = search needs
-
-same-length : tie.Need-same-length
-same-length c = search needs
-
 returns : tie.Need-returns
 returns c =
     let w = c .before .before in
@@ -35,23 +14,11 @@ returns c =
     laid-as (three (a .p) (a .idk1 .now) (a .idk2 .now) (omega arith))
     (laid-rest (v .put-two .ensures) (w .put-name .ensures))
 
-put-two-requires-2 : tie.Need-put-two-requires-2
-put-two-requires-2 c κs = search needs
-
-same-length-2 : tie.Need-same-length-2
-same-length-2 c = search needs
-
 returns-2 : tie.Need-returns-2
 returns-2 c =
     let w = c .before .before in
     let a = w .before .before .before .before .before .before .before .args in
     laid-as (two (a .p) (a .idk1 .now) (a .idk2 .now) (omega arith) (omega arith)) (w .put-two2 .ensures)
-
-put-mark-requires : tie.Need-put-mark-requires
-put-mark-requires c κs = search needs
-
-same-length-3 : tie.Need-same-length-3
-same-length-3 c = search needs
 
 returns-3 : tie.Need-returns-3
 returns-3 c =
@@ -70,18 +37,18 @@ pub put-subfields-spec : {M : Type 1} → statement M
 put-subfields-spec =
     tie.close
     (tie.spec
-    put-two-requires
-    sub-put-name
-    part-put-name-start
-    part-put-name-end
-    put-name-requires
-    add-result
-    same-length
+    (λ c κs. search needs)
+    (λ c. search needs)
+    (λ c. search needs)
+    (λ c. search needs)
+    (λ c κs. search needs)
+    (λ c. search needs)
+    (λ c. search needs)
     returns
-    put-two-requires-2
-    same-length-2
+    (λ c κs. search needs)
+    (λ c. search needs)
     returns-2
-    put-mark-requires
-    same-length-3
+    (λ c κs. search needs)
+    (λ c. search needs)
     returns-3
     returns-4)

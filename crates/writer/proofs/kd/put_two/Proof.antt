@@ -4,27 +4,6 @@ use borrow.Author.Needs.{needs}
 use Rattle.writer.proofs.kd.put_two.Statement.{statement}
 use Rattle.writer.proofs.kd.put_two.Tie as tie
 
-put-mark-requires : tie.Need-put-mark-requires
-put-mark-requires c κs = search needs
-
-sub-put-name : tie.Need-sub-put-name
-sub-put-name c = search needs
-
-part-put-name-start : tie.Need-part-put-name-start
-part-put-name-start c = search needs
-
-part-put-name-end : tie.Need-part-put-name-end
-part-put-name-end c = search needs
-
-put-name-requires : tie.Need-put-name-requires
-put-name-requires c κs = search needs
-
-add-result : tie.Need-add-result
-add-result c = search needs
-
-same-length : tie.Need-same-length
-same-length c = search needs
-
 returns : tie.Need-returns
 returns c =
     let w = c .before .before in
@@ -34,11 +13,11 @@ pub put-two-spec : {M : Type 1} → statement M
 put-two-spec =
     tie.close
     (tie.spec
-    put-mark-requires
-    sub-put-name
-    part-put-name-start
-    part-put-name-end
-    put-name-requires
-    add-result
-    same-length
+    (λ c κs. search needs)
+    (λ c. search needs)
+    (λ c. search needs)
+    (λ c. search needs)
+    (λ c κs. search needs)
+    (λ c. search needs)
+    (λ c. search needs)
     returns)

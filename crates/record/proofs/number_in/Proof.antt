@@ -1,0 +1,50 @@
+-- The first k of the 16 bytes.
+use mathlib.Core.Path.{_≡_, sym, ap, _∙_}
+use Prim.Native.Nat.{_^_, _%_}
+use native.Mathlib.Omega.{arith}
+use lib.ListN.{length, take}
+use lib.Seq.{length-take-le}
+use borrow.Author.Needs.{needs}
+use Rattle.octets.proofs.Comparing.{octets-lent}
+use Rattle.octets.specs.Text.{Text}
+use Rattle.octets.specs.Number.{number}
+use Rattle.partner.specs.Record.{number-in}
+use Rattle.partner.specs.declared.Name.{Name}
+use Rattle.partner.proofs.Storing.{length-part, part-front, number-in-below, number-in-fits}
+use Rattle.record.proofs.number_in.Statement.{statement}
+use Rattle.record.proofs.number_in.Tie as tie
+
+array-share-prefix-bytes : tie.Need-array-share-prefix-bytes
+array-share-prefix-bytes c =
+    let a = c .before .before .before .args in
+    let e = ap (λ (n : Name). length (n .bytes)) (c .before .name-in .ensures) in
+    omega (arith, e, length-part 16 (a .at) (a .s .now))
+
+slice-aggregate-number : tie.Need-slice-aggregate-number
+slice-aggregate-number c =
+    let a = c .before .before .before .before .args in
+    let b = c .before .before .name-in .result .bytes in
+    let e = ap (λ (n : Name). length (n .bytes)) (c .before .before .name-in .ensures) in
+    sym (length-take-le (a .k) b (omega (arith, e, length-part 16 (a .at) (a .s .now))))
+
+returns : tie.Need-returns
+returns c =
+    let read = c .before .before .before in
+    let a = read .before .before .args in
+    let s = a .s .now in
+    let o = octets-lent s (read .before .shared-slice-known .given) in
+    let f = part-front (a .k) 16 (a .at) s (omega arith) in
+    let e = ap (λ (n : Name). take (a .k) (n .bytes)) (read .name-in .ensures) ∙ f in
+    let r : c .number .result ≡ number-in (a .k) (a .at) s =
+    c .number .ensures ∙ ap (λ (t : Text). number t % 2 ^ 64) e ∙ number-in-fits (a .k) (a .at) s o (omega arith) in
+    (r, omega (arith, r, number-in-below (a .k) (a .at) s o))
+
+pub number-in-spec : {M : Type 1} → statement M
+number-in-spec =
+    tie.close
+    (tie.spec
+    (λ c κs. search needs)
+    array-share-prefix-bytes
+    slice-aggregate-number
+    (λ c κs. search needs)
+    returns)
