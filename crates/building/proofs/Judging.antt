@@ -10,10 +10,11 @@ use borrow.Author.Tests.{not-false, ne-eqb, ltb-true, ltb-false, lt-ltb, le-ltb}
 use Rattle.octets.specs.Text.{Text, same}
 use Rattle.octets.specs.First.{Order, first}
 use Rattle.octets.proofs.Firsts.{holds-first}
+use Rattle.octets.proofs.Comparing.{both as and-true}
 use Rattle.csm.specs.Format.{value}
 use Rattle.csm.specs.Fields.{svr}
 use Rattle.csm.specs.Message.{rsi, print}
-use Rattle.csm.proofs.TextLaws.{some-inj, cond-some, and-true}
+use Rattle.csm.proofs.TextLaws.{some-inj, cond-some}
 use Rattle.fields.specs.declared.Number.the-variants as number
 use Rattle.fields.specs.Seen.{number-seen}
 use Rattle.fields.specs.Steps.{alone}
@@ -26,9 +27,9 @@ use Rattle.calls.specs.Build.{malformed, outgoing-of, ksm-text}
 use Rattle.calls.specs.Build as calls
 use Rattle.calls.specs.Words.{if_then_else_}
 use Rattle.calls.proofs.Tests.{if-true, if-false}
-use Rattle.outcome.specs.Acts.{sound, guarded, build-ksm, build-rsi}
+use Rattle.outcome.specs.Acts.{sound, guarded, build-ksm, build-rsi, Ready}
 use Rattle.building.specs.Order as order
-use Rattle.building.specs.Parts.{rsi-text, Ready}
+use Rattle.building.specs.Parts.{rsi-text}
 
 -- a request that is answered 0
 pub record Good (own : Text) (e : Entry) (room : ℕ) (q : Request) (t : Turn) : Type 0 where
@@ -109,7 +110,7 @@ service-some w s n h = go (value svr w) h
 -- both tests passed
 pub ready : {own : Text} {e : Entry} {room : ℕ} {r : Bool} → r ≡ sound own e → not r ≡ false → 256 ≤ room
     → Ready own e room
-ready {r = r} p q h = record { is-sound = sym p ∙ not-false r q; roomy = h }
+ready {r = r} p q h = record { lawful = sym p ∙ not-false r q; roomy = h }
 
 module _ (own : Text) (e : Entry) (room : ℕ) (w : Text) where
   pub rsi-unsound : sound own e ≡ false → build-rsi own e room w ≡ refused e 13
@@ -123,7 +124,7 @@ module _ (own : Text) (e : Entry) (room : ℕ) (w : Text) where
   -- neither 13 nor 6
   rsi-goes : Ready own e room → build-rsi own e room w ≡ calls.build-rsi own e w
   unfolding build-rsi guarded
-  rsi-goes g = if-false _ _ _ (ap not (g .is-sound)) ∙ if-false _ _ _ (le-ltb room 256 (g .roomy))
+  rsi-goes g = if-false _ _ _ (ap not (g .lawful)) ∙ if-false _ _ _ (le-ltb room 256 (g .roomy))
 
   pub rsi-none : Ready own e room → number-seen svr (alone (value svr w)) ≡ number.Nothing
       → build-rsi own e room w ≡ refused e 12

@@ -9,13 +9,13 @@ use lib.ListN.{length}
 use borrow.Author.Tests.{le-leb, lt-ltb, not-false}
 use Rattle.octets.specs.Text.{Text, ascii, is-name}
 use Rattle.octets.specs.Part.{bare}
+use Rattle.octets.proofs.Comparing.{both as and-true}
 use Rattle.keying.specs.Mac.{mac-key, mac}
 use Rattle.keying.specs.Iv.{conceal}
 use Rattle.keying.specs.Date.{is-date}
 use Rattle.csm.specs.Fields.{hex-text, nonempty, legal-name}
 use Rattle.csm.specs.Message.{Reading, ksm, rsi, legal, legal-body, print}
 use Rattle.csm.specs.Covered.{covered-part}
-use Rattle.csm.proofs.TextLaws.{and-true}
 use Rattle.csm.proofs.MessageLaws.{read-back}
 use Rattle.partner.specs.declared.Entry.{Entry}
 use Rattle.partner.specs.Entry.{keys-in}
@@ -37,8 +37,8 @@ use Rattle.calls.specs.Receive.{to-partner}
 use Rattle.calls.specs.Build.{bad-key, wants-idk1, wants-idk2, asked, kd-for, iv-for, outgoing-of, ksm-body, ksm-text}
 use Rattle.calls.proofs.Requests.{Formed, Keyed, formed, one, two, not-two, idk1-legal}
 use Rattle.calls.proofs.Written.{sent, sent-written, to-them}
-use Rattle.outcome.specs.Acts.{sound}
-use Rattle.building.specs.Parts.{written, dated, key-for, keys-for, vector-for, rsi-text, fronted, Ready}
+use Rattle.outcome.specs.Acts.{sound, Ready}
+use Rattle.building.specs.Parts.{name-written, dated, key-for, keys-for, vector-for, rsi-text, fronted}
 use Rattle.building.proofs.Judging.{Good}
 
 -- ---- what a writer leaves of a legal reading where there is room
@@ -85,34 +85,34 @@ iv-is q = go (conceal (keys-in (outgoing-of q)) (q .iv)) (eqb (q .kind) 1) (eqb 
 abbrev unsealed-for : Text → Entry → Request → ℕ → Reading
 unsealed-for own e q =
     unsealed-ksm (bare (e .identity .bytes)) own (keys-for e q)
-    (written (wants-idk1 (q .first)) (q .first .name .bytes)) (written (wants-idk2 (q .first)) (e .name .bytes))
-    (written (wants-idk1 (q .second)) (q .second .name .bytes)) (written (wants-idk2 (q .second)) (e .name .bytes))
+    (name-written (wants-idk1 (q .first)) (q .first .name .bytes)) (name-written (wants-idk2 (q .first)) (e .name .bytes))
+    (name-written (wants-idk1 (q .second)) (q .second .name .bytes)) (name-written (wants-idk2 (q .second)) (e .name .bytes))
     (vector-for q) (dated (eqb (q .dated) 1) (q .date .digits)) (e .next)
 
 abbrev pub reading-for : Text → Entry → Request → Reading
 reading-for own e q =
     ksm-reading (bare (e .identity .bytes)) own (keys-for e q)
-    (written (wants-idk1 (q .first)) (q .first .name .bytes)) (written (wants-idk2 (q .first)) (e .name .bytes))
-    (written (wants-idk1 (q .second)) (q .second .name .bytes)) (written (wants-idk2 (q .second)) (e .name .bytes))
+    (name-written (wants-idk1 (q .first)) (q .first .name .bytes)) (name-written (wants-idk2 (q .first)) (e .name .bytes))
+    (name-written (wants-idk1 (q .second)) (q .second .name .bytes)) (name-written (wants-idk2 (q .second)) (e .name .bytes))
     (vector-for q) (dated (eqb (q .dated) 1) (q .date .digits)) (e .next) (mac-key (keys-in (outgoing-of q)))
 
 module _ (own : Text) (e : Entry) (q : Request) (lawful : partner.legal e ≡ true) (f : Formed q) where
   -- the names of a KD: its own, and the entry's
   idk1-is : (k : KeyRequest) → bad-key k ≡ false
-      → nonempty (written (wants-idk1 k) (k .name .bytes)) ≡ asked (wants-idk1 k) (bare (k .name .bytes))
+      → nonempty (name-written (wants-idk1 k) (k .name .bytes)) ≡ asked (wants-idk1 k) (bare (k .name .bytes))
   idk1-is k h = go (wants-idk1 k) (idk1-legal k h)
     where
       go : (b : Bool) → legal-name (asked b (bare (k .name .bytes))) ≡ true
-          → nonempty (written b (k .name .bytes)) ≡ asked b (bare (k .name .bytes))
+          → nonempty (name-written b (k .name .bytes)) ≡ asked b (bare (k .name .bytes))
       go b h = asked-for b (bare (k .name .bytes)) λ p. name-there (bare (k .name .bytes)) (rw p at h)
 
-  idk2-is : (b : Bool) → nonempty (written b (e .name .bytes)) ≡ asked b (bare (e .name .bytes))
+  idk2-is : (b : Bool) → nonempty (name-written b (e .name .bytes)) ≡ asked b (bare (e .name .bytes))
   idk2-is b =
       asked-for b (bare (e .name .bytes)) λ _.
       name-there (bare (e .name .bytes)) (filled-name (e .name .bytes) (rules e lawful .name-filled))
 
   kd-is : (k : KeyRequest) → bad-key k ≡ false
-      → kd-of (key-for e k) (written (wants-idk1 k) (k .name .bytes)) (written (wants-idk2 k) (e .name .bytes))
+      → kd-of (key-for e k) (name-written (wants-idk1 k) (k .name .bytes)) (name-written (wants-idk2 k) (e .name .bytes))
       ≡ kd-for e k
   kd-is k h = λ j. record {
     key = kd-for e k .key;
@@ -121,26 +121,26 @@ module _ (own : Text) (e : Entry) (q : Request) (lawful : partner.legal e ≡ tr
     idk2 = idk2-is (wants-idk2 k) j;
   }
 
-  first-is : kd-of (first (keys-for e q)) (written (wants-idk1 (q .first)) (q .first .name .bytes))
-      (written (wants-idk2 (q .first)) (e .name .bytes))
+  first-is : kd-of (first (keys-for e q)) (name-written (wants-idk1 (q .first)) (q .first .name .bytes))
+      (name-written (wants-idk2 (q .first)) (e .name .bytes))
       ≡ kd-for e (q .first)
   unfolding keys-for if_then_else_
   first-is = go (f .keys)
     where
-      go : Keyed q → kd-of (first (keys-for e q)) (written (wants-idk1 (q .first)) (q .first .name .bytes))
-          (written (wants-idk2 (q .first)) (e .name .bytes))
+      go : Keyed q → kd-of (first (keys-for e q)) (name-written (wants-idk1 (q .first)) (q .first .name .bytes))
+          (name-written (wants-idk2 (q .first)) (e .name .bytes))
           ≡ kd-for e (q .first)
       go (one p h) = rw (not-two q p) (kd-is (q .first) h)
       go (two p r h i) = rw r (kd-is (q .first) h)
 
-  second-is : second-of (keys-for e q) (written (wants-idk1 (q .second)) (q .second .name .bytes))
-      (written (wants-idk2 (q .second)) (e .name .bytes))
+  second-is : second-of (keys-for e q) (name-written (wants-idk1 (q .second)) (q .second .name .bytes))
+      (name-written (wants-idk2 (q .second)) (e .name .bytes))
       ≡ asked (eqb (q .count) 2) (kd-for e (q .second))
   unfolding keys-for if_then_else_
   second-is = go (f .keys)
     where
-      go : Keyed q → second-of (keys-for e q) (written (wants-idk1 (q .second)) (q .second .name .bytes))
-          (written (wants-idk2 (q .second)) (e .name .bytes))
+      go : Keyed q → second-of (keys-for e q) (name-written (wants-idk1 (q .second)) (q .second .name .bytes))
+          (name-written (wants-idk2 (q .second)) (e .name .bytes))
           ≡ asked (eqb (q .count) 2) (kd-for e (q .second))
       go (one p h) = rw (not-two q p)
       go (two p r h i) = rw r (ap some (kd-is (q .second) i))
@@ -196,18 +196,18 @@ ksm-wrote own e q l g =
     )
 
 -- a name by what is asked
-pub name-made : {b d : Bool} {w : Text} (n : Text) → w ≡ written b n → b ≡ d → w ≡ written d n
-name-made n p q = p ∙ ap (λ (b : Bool). written b n) q
+pub name-made : {b d : Bool} {w : Text} (n : Text) → w ≡ name-written b n → b ≡ d → w ≡ name-written d n
+name-made n p q = p ∙ ap (λ (b : Bool). name-written b n) q
 
 -- the parts as they were made are those parts
 module _ (own : Text) (e : Entry) (q : Request) where
   pub record Made (rcv : Text) (keys : Keys) (i j u w : Text) (v : Vector) (d : Text) (k : ℕ) : Type 0 where
     pub to : rcv ≡ bare (e .identity .bytes)
     pub are : keys ≡ keys-for e q
-    pub idk1 : i ≡ written (wants-idk1 (q .first)) (q .first .name .bytes)
-    pub idk2 : j ≡ written (wants-idk2 (q .first)) (e .name .bytes)
-    pub second-idk1 : u ≡ written (wants-idk1 (q .second)) (q .second .name .bytes)
-    pub second-idk2 : w ≡ written (wants-idk2 (q .second)) (e .name .bytes)
+    pub idk1 : i ≡ name-written (wants-idk1 (q .first)) (q .first .name .bytes)
+    pub idk2 : j ≡ name-written (wants-idk2 (q .first)) (e .name .bytes)
+    pub second-idk1 : u ≡ name-written (wants-idk1 (q .second)) (q .second .name .bytes)
+    pub second-idk2 : w ≡ name-written (wants-idk2 (q .second)) (e .name .bytes)
     pub vector : v ≡ vector-for q
     pub edk : d ≡ dated (eqb (q .dated) 1) (q .date .digits)
     pub key : k ≡ mac-key (keys-in (outgoing-of q))
@@ -224,7 +224,7 @@ pub rsi-wrote : (own : Text) (e : Entry) (s : ℕ) (l : Text) → Ready own e (l
     × (buffer (rsi-reading (bare (e .identity .bytes)) own s) l ≡ fronted (rsi-text own e s) l)
 unfolding sound rsi-text rsi-reading
 rsi-wrote own e s l g k =
-    let a = and-true (is-name own) (partner.legal e) (g .is-sound) in
+    let a = and-true (is-name own) (partner.legal e) (g .lawful) in
     let b = rsi (record { svr = s; edc = none }) in
     let r = to-partner own e b in
     let c : legal-body b ≡ true = rw (lt-ltb s 12 k) in

@@ -1,7 +1,7 @@
 -- What the private functions give: the parts of the messages that are built, as their writers take them.
 -- No belief rests on these: proofs/ ties them to the steps of crate `calls`.
 use mathlib.Core.Path.{_≡_}
-use mathlib.Core.Bool.{Bool, true, cond}
+use mathlib.Core.Bool.{Bool, cond}
 use mathlib.Core.List.{[], _++_}
 use mathlib.Core.Option.{none}
 use Prim.Native.Nat.{ℕ, _≤_}
@@ -24,11 +24,10 @@ use Rattle.calls.specs.declared.Request.{Request}
 use Rattle.calls.specs.Words.{if_then_else_}
 use Rattle.calls.specs.Receive.{to-partner}
 use Rattle.calls.specs.Build.{wants-p, outgoing-of}
-use Rattle.outcome.specs.Acts.{sound}
 
 -- a name as it is written, and a date: empty where it is not asked for
-abbrev pub written : Bool → Text → Text
-written b s = cond b (bare s) []
+abbrev pub name-written : Bool → Text → Text
+name-written b s = cond b (bare s) []
 
 abbrev pub dated : Bool → Text → Text
 dated b s = cond b s []
@@ -55,8 +54,3 @@ rsi-text own e s = print (to-partner own e (rsi (record { svr = s; edc = none })
 -- a text over the front of a buffer
 unfoldable pub fronted : Text → Text → Text
 fronted t l = t ++ drop (length t) l
-
--- neither 13 nor 6
-pub record Ready (own : Text) (e : Entry) (room : ℕ) : Type 0 where
-  pub is-sound : sound own e ≡ true
-  pub roomy : 256 ≤ room

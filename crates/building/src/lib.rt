@@ -19,9 +19,9 @@ fn judge(own: &[u8], e: Entry, q: Request, room: usize) -> u32
     ensures { λ r. ⌜ r ≡ first (order.build-ksm (now (own .entry)) e room q) ⌝ }
 {
     let a = octets::then(0, !outcome::is_sound(own, e), 13);
-    let b = octets::then(a, room < 256, 6);
-    let c = octets::then(b, e.phase == 1, 7);
-    let d = octets::then(c, e.next == 99_999_999, 8);
+    let b = octets::then(a, room < calls::ROOM, 6);
+    let c = octets::then(b, e.phase == partner::WAITING, 7);
+    let d = octets::then(c, e.next == partner::LIMIT, 8);
     let f = octets::then(d, request::any_not_odd(q), 11);
     octets::then(f, request::malformed(q), 12)
 }
@@ -50,7 +50,7 @@ pub fn build_rsi(own: &[u8], e: Entry, contents: &[u8], reply: &mut [u8]) -> Tur
     if !outcome::is_sound(own, e) {
         return outcome::refused(e, 13);
     }
-    if reply.len() < 256 {
+    if reply.len() < calls::ROOM {
         return outcome::refused(e, 6);
     }
     let Number::Is { value, length: _ } = fields::service(contents) else {
@@ -67,7 +67,7 @@ pub fn build_rsi(own: &[u8], e: Entry, contents: &[u8], reply: &mut [u8]) -> Tur
 pub fn give_up(e: Entry) -> Turned
     ensures { λ r. ⌜ r ≡ report.turned (building.give-up e) ⌝ }
 {
-    if e.phase != 1 {
+    if e.phase != partner::WAITING {
         return outcome::refused(e, 5);
     }
     Turned {

@@ -4,6 +4,7 @@ ghost use Prim.Native.Nat.{_<_};
 ghost use lib.ListN.{length};
 ghost use Rattle.octets.specs.First.{first};
 ghost use Rattle.calls.specs.Build as building;
+ghost use Rattle.outcome.specs.Acts as acts;
 ghost use Rattle.building.specs.Order as order;
 ghost use Rattle.building.specs.Parts as parts;
 use calls::KeyRequest;
@@ -17,7 +18,7 @@ use writer::Vector;
 
 // A name as it is written: bare where it is asked for, else nothing.
 fn written(name: &[u8], asked: bool) -> &[u8]
-    ensures { λ r. ⌜ now r ≡ parts.written asked (now (name .entry)) ⌝ }
+    ensures { λ r. ⌜ now r ≡ parts.name-written asked (now (name .entry)) ⌝ }
 {
     if asked {
         return octets::bare(name);
@@ -126,7 +127,7 @@ pub(crate) fn write(own: &[u8], e: Entry, q: Request, reply: &mut [u8]) -> usize
 
 // The RSI for a service over the front of the reply buffer; its length.
 pub(crate) fn write_rsi(own: &[u8], e: Entry, service: u64, reply: &mut [u8]) -> usize
-    requires { ⌜ parts.Ready (now own) e (length (now reply)) ⌝ }
+    requires { ⌜ acts.Ready (now own) e (length (now reply)) ⌝ }
     requires { ⌜ service < 12 ⌝ }
     ensures { λ r. ⌜ r ≡ length (parts.rsi-text (now (own .entry)) e service) ⌝ }
     ensures { λ r. ⌜ now (reply .exit) ≡ parts.fronted (parts.rsi-text (now (own .entry)) e service) (now (reply .entry)) ⌝ }

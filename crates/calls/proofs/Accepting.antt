@@ -9,10 +9,10 @@ use lib.Dec.{eqb, ltb}
 use borrow.Author.Tests.{le-ltb, ne-eqb, eq-eqb}
 use Rattle.octets.specs.Text.{Text, same}
 use Rattle.octets.specs.Part.{bare}
+use Rattle.octets.proofs.Comparing.{same-self as same-refl}
 use Rattle.keying.specs.Mac.{mac-key, mac}
 use Rattle.csm.specs.Message.{Body, Ksm, Rsm, Esm, ksm, rsm, esm}
 use Rattle.csm.specs.Covered.{covered}
-use Rattle.csm.proofs.TextLaws.{same-refl}
 use Rattle.partner.specs.declared.KeySet.{KeySet}
 use Rattle.partner.specs.declared.Entry.{Entry}
 use Rattle.partner.specs.Entry.{limit, filled, keys-in}
@@ -28,7 +28,7 @@ use Rattle.calls.specs.Receive.{bad-count, iv-of, judged, receive-ksm, i
 use Rattle.calls.specs.Receive.{receive-esm}
 use Rattle.calls.specs.Build as building
 use Rattle.calls.specs.Build.{outgoing-of, ksm-text}
-use Rattle.calls.specs.Calls.{receive, about, build-ksm, After, entry-of, turned, at-partner, receiving}
+use Rattle.calls.specs.Calls.{receive, about, build-ksm, After, entry-of, after-turn, at-partner, receiving}
 use Rattle.partner.specs.Table.{holding}
 use Rattle.calls.specs.Calls.{perform, run}
 use Rattle.calls.specs.Claims.{Carries}
@@ -42,12 +42,12 @@ use Rattle.calls.proofs.Tables.{own-name, entry-held, held-legal, turne
 
 module _ (t : Table) (lawful : legal t ≡ true) (room : ℕ) (roomy : 256 ≤ room) (id : Text) (e : Entry)
     (known : entry-of id t ≡ some e) where
-  partner-turns : (f : Entry → Turn) → at-partner t id f ≡ turned t id f (some e)
+  partner-turns : (f : Entry → Turn) → at-partner t id f ≡ after-turn t id f (some e)
   unfolding at-partner
-  partner-turns f = ap (turned t id f) known
+  partner-turns f = ap (after-turn t id f) known
 
   pub receive-turns : (text : Text) (b : Body) → Carries id (bare (t .own)) b text
-      → run t (receive room text) ≡ turned t id (λ e. by-class.receive (bare (t .own)) e text b) (some e)
+      → run t (receive room text) ≡ after-turn t id (λ e. by-class.receive (bare (t .own)) e text b) (some e)
   unfolding run perform receiving
   receive-turns text b h =
       if-true (legal t) _ _ lawful ∙ if-false (ltb room 256) _ _ (le-ltb room 256 roomy)
@@ -56,7 +56,7 @@ module _ (t : Table) (lawful : legal t ≡ true) (room : ℕ) (roomy : 256 ≤ r
       ∙ partner-turns (λ e. by-class.receive (bare (t .own)) e text b)
 
   pub build-turns : (q : Request)
-      → run t (about id (build-ksm room q)) ≡ turned t id (λ e. building.build-ksm (bare (t .own)) e q) (some e)
+      → run t (about id (build-ksm room q)) ≡ after-turn t id (λ e. building.build-ksm (bare (t .own)) e q) (some e)
   unfolding run perform
   build-turns q =
       if-true (legal t) _ _ lawful ∙ if-false (ltb room 256) _ _ (le-ltb room 256 roomy)

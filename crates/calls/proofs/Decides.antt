@@ -15,7 +15,7 @@ use Rattle.partner.specs.Table.{Table, legal}
 use Rattle.calls.specs.Words.{if_then_else_}
 use Rattle.calls.specs.Outcome.{Turn}
 use Rattle.calls.specs.Calls.{Act, build-ksm, build-rsi, give-up, remove, ask, Call, receive, about, load, After, refuse}
-use Rattle.calls.specs.Calls.{entry-of, turned, at-partner, receiving, emptied, short, no-room, acting, perform, run}
+use Rattle.calls.specs.Calls.{entry-of, after-turn, at-partner, receiving, emptied, short, no-room, acting, perform, run}
 use Rattle.partner.specs.Table.{holding}
 use Rattle.calls.specs.Claims.{sender, subject, Of-one-entry}
 use Rattle.calls.proofs.Turns.{Does, does-change, change-identity, receive-does, build-ksm-does}
@@ -48,19 +48,19 @@ module _ (t : Table) (s : List Entry) (lawful : legal t ≡ true) (lawful′ : l
     -- both tables have the entry, or neither has
     alike-found : (f : Entry → Turn)
         → ((e : Entry) → Held t id e → Held (holding t s) id e
-        → Alike id (turned t id f (some e)) (turned (holding t s) id f (some e)))
+        → Alike id (after-turn t id f (some e)) (after-turn (holding t s) id f (some e)))
         → Alike id (at-partner t id f) (at-partner (holding t s) id f)
     unfolding at-partner
     alike-found f k = go (entry-of id t) refl (entry-of id (holding t s)) refl
       where
         go : (o : Option Entry) → entry-of id t ≡ o → (p : Option Entry) → entry-of id (holding t s) ≡ p
-            → Alike id (turned t id f o) (turned (holding t s) id f p)
+            → Alike id (after-turn t id f o) (after-turn (holding t s) id f p)
         go none q none r = alike-refused 3
         go none q (some e) r = absurd (none-some e (sym q ∙ same-entry ∙ r))
         go (some e) q none r = absurd (none-some e (sym r ∙ sym same-entry ∙ q))
         go (some e) q (some x) r =
             let i : e ≡ x = some-inj (sym q ∙ same-entry ∙ r) in
-            subst (λ (y : Entry). Alike id (turned t id f (some e)) (turned (holding t s) id f (some y))) i
+            subst (λ (y : Entry). Alike id (after-turn t id f (some e)) (after-turn (holding t s) id f (some y))) i
             (k e (entry-held t id e q) (entry-held (holding t s) id e (sym same-entry ∙ q)))
 
     alike-partner : (f : Entry → Turn) → Keeping f → Alike id (at-partner t id f) (at-partner (holding t s) id f)

@@ -7,20 +7,20 @@ use Prim.Native.Nat.{ℕ}
 use borrow.Author.Tests.{not-false}
 use Rattle.octets.specs.Text.{Text, is-name}
 use Rattle.octets.specs.Part.{bare}
+use Rattle.octets.proofs.Comparing.{both as and-true}
 use Rattle.keying.specs.declared.Top.{Top}
 use Rattle.keying.specs.Keys.{odd-top}
 use Rattle.csm.specs.Message.{Reading, read}
-use Rattle.csm.proofs.TextLaws.{and-true}
 use Rattle.csm.proofs.MessageLaws.{read-back, legal-parts as reading-parts}
 use Rattle.partner.specs.declared.Entry.{Entry}
 use Rattle.partner.specs.Entry.{empty, filled, name-of}
 use Rattle.partner.specs.Legal as partner
 use Rattle.partner.specs.Changes.{loaded}
 use Rattle.partner.proofs.Claims.{claims}
-use Rattle.partner.specs.Table.{Table, legal, identities, differs, put, place}
+use Rattle.partner.specs.Table.{Table, legal, identities, differs, put, into-free-slot}
 use Rattle.calls.specs.Outcome.{success, nothing, Turn}
 use Rattle.calls.specs.Calls.{Act, build-ksm, build-rsi, give-up, remove, ask, Call, receive, about, load, After, refuse}
-use Rattle.calls.specs.Calls.{entry-of, turned, at-partner, with-room, receiving, placed, loading}
+use Rattle.calls.specs.Calls.{entry-of, after-turn, at-partner, with-room, receiving, after-load, loading}
 use Rattle.partner.specs.Table.{holding}
 use Rattle.calls.specs.Calls.{emptied, short, no-room, acting, perform, run}
 use Rattle.calls.specs.Claims.{Answers, Answers-text, Sends, Writes, sender, subject}
@@ -51,7 +51,7 @@ module _ (t : Table) (lawful : legal t ≡ true) where
   unfolding at-partner
   partner-effect id R turn h = go (entry-of id t) refl
     where
-      go : (o : Option Entry) → entry-of id t ≡ o → Effect t id (R id) (turned t id turn o)
+      go : (o : Option Entry) → entry-of id t ≡ o → Effect t id (R id) (after-turn t id turn o)
       go none q = refuses 3 refl
       go (some e) q =
           let k = entry-held t id e q in
@@ -77,7 +77,7 @@ module _ (t : Table) (lawful : legal t ≡ true) where
   unfolding at-partner
   remove-effect id = go (entry-of id t) refl
     where
-      go : (o : Option Entry) → entry-of id t ≡ o → Effect t id (λ s. s ≡ []) (turned t id emptied o)
+      go : (o : Option Entry) → entry-of id t ≡ o → Effect t id (λ s. s ≡ []) (after-turn t id emptied o)
       go none q = refuses 3 refl
       go (some e) q = empties e lawful (entry-held t id e q) refl
 
@@ -104,12 +104,12 @@ module _ (t : Table) (lawful : legal t ≡ true) where
       by-case (Effect t id (λ s. s ≡ [])) _ _ _ (λ _. refuses 12 refl) λ n.
       by-case (Effect t id (λ s. s ≡ [])) _ _ _ (λ _. refuses 11 refl) λ o.
       go (and-true (is-name id) (differs (filled id) (t .own ∷ identities (t .slots))) (not-false _ h))
-      (not-false _ n) (not-false _ o) (place (loaded (name-of id) (name-of name) top) (t .slots)) refl
+      (not-false _ n) (not-false _ o) (into-free-slot (loaded (name-of id) (name-of name) top) (t .slots)) refl
     where
       go : (is-name id ≡ true) × (differs (filled id) (t .own ∷ identities (t .slots)) ≡ true) → is-name name ≡ true
           → odd-top top ≡ true
-          → (m : Option (List Entry)) → place (loaded (name-of id) (name-of name) top) (t .slots) ≡ m
-          → Effect t id (λ s. s ≡ []) (placed t m)
+          → (m : Option (List Entry)) → into-free-slot (loaded (name-of id) (name-of name) top) (t .slots) ≡ m
+          → Effect t id (λ s. s ≡ []) (after-load t m)
       go h n o none q = refuses 9 refl
       go h n o (some m) q =
           let x = loaded (name-of id) (name-of name) top in

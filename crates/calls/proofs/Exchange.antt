@@ -8,7 +8,8 @@ use Prim.Native.Char.{code}
 use native.Mathlib.Omega.{arith}
 use lib.Dec.{eqb}
 use Rattle.octets.specs.Text.{Text, same}
-use Rattle.octets.specs.Part.{bare}
+use Rattle.octets.specs.Part.{bare, found}
+use Rattle.octets.proofs.Comparing.{same-self as same-refl}
 use Rattle.keying.specs.declared.Top.{Top}
 use Rattle.keying.specs.Parity.{odd}
 use Rattle.keying.specs.Keys.{working, seal, unseal}
@@ -17,9 +18,8 @@ use Rattle.keying.specs.Iv.{conceal, reveal}
 use Rattle.keying.specs.Date.{is-date}
 use Rattle.keying.proofs.Laws.{unseal-seal, reveal-conceal, conceal-lt}
 use Rattle.csm.specs.Fields.{named, hex-text}
-use Rattle.csm.specs.Message.{ksm, found}
+use Rattle.csm.specs.Message.{ksm}
 use Rattle.csm.specs.Covered.{covered}
-use Rattle.csm.proofs.TextLaws.{same-refl}
 use Rattle.csm.proofs.NumberLaws.{hex-number}
 use Rattle.csm.proofs.WordTests.{hex-passes}
 use Rattle.partner.specs.declared.Name.{Name}
@@ -219,11 +219,11 @@ module _ (us : Text) (e f : Entry) (q : Request) (good : Fit e q) (sized : Sized
 
 -- ---- the exchange
 
-issued-waits : (e : Entry) (set : KeySet) → is-waiting (issued e set) ≡ true
+pub issued-waits : (e : Entry) (set : KeySet) → is-waiting (issued e set) ≡ true
 unfolding issued sending is-waiting
 issued-waits e set = refl
 
-issued-outgoing : (e : Entry) (set : KeySet) → issued e set .outgoing ≡ set
+pub issued-outgoing : (e : Entry) (set : KeySet) → issued e set .outgoing ≡ set
 unfolding issued sending
 issued-outgoing e set = refl
 

@@ -7,12 +7,12 @@ use Prim.Native.Nat.{ℕ}
 use native.Mathlib.Omega.{arith}
 use borrow.Author.Tests.{not-true}
 use Rattle.octets.specs.Text.{Text, same}
-use Rattle.csm.proofs.TextLaws.{and-true, same-true, same-refl}
+use Rattle.octets.proofs.Comparing.{both as and-true, same-equal as same-true, same-self as same-refl}
 use Rattle.partner.specs.declared.Entry.{Entry}
 use Rattle.partner.specs.Entry.{empty}
 use Rattle.partner.specs.Legal as partner
-use Rattle.partner.specs.Table.{is-empty, slots-legal, identities, differs, apart, find, put, behind, place}
-use Rattle.calls.specs.Claims.{kept, placed, Row, next}
+use Rattle.partner.specs.Table.{is-empty, slots-legal, identities, differs, apart, find, put, behind, into-free-slot}
+use Rattle.calls.specs.Claims.{kept, placed, Slotwise, next}
 use Rattle.calls.proofs.Tests.{never, and-join}
 use Rattle.calls.proofs.Slots.{empty-is, empty-nobody, legal-slot, slot-of, slots-of, row-same}
 
@@ -146,21 +146,21 @@ pub data Places (x : Entry) : Slots → Slots → Type 0 where
   here : (e : Entry) (l : Slots) → is-empty e ≡ true → Places x (e ∷ l) (x ∷ l)
   later : (e : Entry) {l m : Slots} → Places x l m → Places x (e ∷ l) (e ∷ m)
 
-pub place-places : (x : Entry) (l m : Slots) → place x l ≡ some m → Places x l m
+pub place-places : (x : Entry) (l m : Slots) → into-free-slot x l ≡ some m → Places x l m
 place-places x [] m h = absurd (let z : _≡_ {A = ℕ} 0 1 = cc in omega arith)
 place-places x (e ∷ l) m h = go (is-empty e) refl h (place-places x l)
   where
-    after : (o : Option Slots) → place x l ≡ o → behind e o ≡ some m
-        → ((k : Slots) → place x l ≡ some k → Places x l k) → Places x (e ∷ l) m
+    after : (o : Option Slots) → into-free-slot x l ≡ o → behind e o ≡ some m
+        → ((k : Slots) → into-free-slot x l ≡ some k → Places x l k) → Places x (e ∷ l) m
     after none q h ih = absurd (let z : _≡_ {A = ℕ} 0 1 = cc in omega arith)
     after (some k) q h ih = let p : e ∷ k ≡ m = cc in subst (Places x (e ∷ l)) p (later e (ih k q))
 
-    go : (b : Bool) → is-empty e ≡ b → cond b (some (x ∷ l)) (behind e (place x l)) ≡ some m
-        → ((k : Slots) → place x l ≡ some k → Places x l k) → Places x (e ∷ l) m
+    go : (b : Bool) → is-empty e ≡ b → cond b (some (x ∷ l)) (behind e (into-free-slot x l)) ≡ some m
+        → ((k : Slots) → into-free-slot x l ≡ some k → Places x l k) → Places x (e ∷ l) m
     go true q h ih = let p : x ∷ l ≡ m = cc in subst (Places x (e ∷ l)) p (here e l q)
-    go false q h ih = after (place x l) refl h ih
+    go false q h ih = after (into-free-slot x l) refl h ih
 
-pub row-place : (x : Entry) {l m : Slots} → Places x l m → Row (x .identity .bytes) l m
+pub row-place : (x : Entry) {l m : Slots} → Places x l m → Slotwise (x .identity .bytes) l m
 row-place x (here e l q) = next (placed e x q refl) (row-same (x .identity .bytes) l)
 row-place x (later e p) = next (kept e) (row-place x p)
 

@@ -22,7 +22,7 @@ use Rattle.calls.specs.Receive as by-class
 use Rattle.calls.specs.Receive.{brought, when, faults, bad-format, bad-mac, bad-count}
 use Rattle.calls.specs.Receive.{judged, receive-ksm, is-waiting, receive-rsm}
 use Rattle.calls.specs.Build as building
-use Rattle.calls.specs.Calls.{receive, about, build-ksm, After, entry-of, turned, at-partner, receiving, perform, run}
+use Rattle.calls.specs.Calls.{receive, about, build-ksm, After, entry-of, after-turn, at-partner, receiving, perform, run}
 use Rattle.calls.specs.Claims.{Carries}
 use Rattle.calls.proofs.Passing.{Passes, Fit}
 use Rattle.calls.proofs.Tests.{or-split, by-case}
@@ -43,7 +43,7 @@ not-done n k h = absurd (refusing-not-0 n k h)
 module _ (t : Table) (id : Text) (e : Entry) (known : entry-of id t ≡ some e) (X : Type 0) where
   partner-only : (f : Entry → Turn) → (f e .outcome .answer ≡ 0 → X) → Only X (at-partner t id f)
   unfolding at-partner
-  partner-only f h = λ z. h (ap (λ (o : Option Entry). turned t id f o .outcome .answer) (sym known) ∙ z)
+  partner-only f h = λ z. h (ap (λ (o : Option Entry). after-turn t id f o .outcome .answer) (sym known) ∙ z)
 
   receive-only : (room : ℕ) (text : Text) (b : Body) → Carries id (bare (t .own)) b text
       → (legal t ≡ true → by-class.receive (bare (t .own)) e text b .outcome .answer ≡ 0 → X)

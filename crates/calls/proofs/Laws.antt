@@ -8,7 +8,8 @@ use native.Mathlib.Omega.{arith}
 use borrow.Author.Tests.{eqb-false, not-true}
 use Rattle.octets.specs.Text.{Text, same}
 use Rattle.octets.specs.Part.{bare}
-use Rattle.csm.proofs.TextLaws.{and-true, some-inj, none-some}
+use Rattle.octets.proofs.Comparing.{both as and-true}
+use Rattle.csm.proofs.TextLaws.{some-inj, none-some}
 use Rattle.partner.specs.declared.Name.{Name}
 use Rattle.partner.specs.declared.Entry.{Entry}
 use Rattle.partner.specs.Entry.{empty, filled}
@@ -18,7 +19,7 @@ use Rattle.partner.specs.Table.{Table, legal, slots-legal, identities, differs,
 use Rattle.calls.specs.Outcome.{Turn, refusal}
 use Rattle.calls.specs.Calls.{After, entry-of}
 use Rattle.partner.specs.Table.{holding}
-use Rattle.calls.specs.Claims.{Row, Complains}
+use Rattle.calls.specs.Claims.{Slotwise, Complains}
 use Rattle.calls.proofs.Tests.{and-join}
 use Rattle.calls.proofs.Turns.{refusing-not-0, refusing-not-4}
 use Rattle.calls.proofs.Turns.{Does, does-change, does-keep, does-bare, does-reply}
@@ -75,16 +76,16 @@ module _ (t : Table) (id : Text) (R : Text → Type 0) where
       ap (λ (n : Name). n .bytes) (change-identity e (r .entry) (does-change r d))
       ∙ q .identity
 
-  pub rows : (a : After) → Effect t id R a → Row (filled id) (t .slots) (a .table .slots)
+  pub rows : (a : After) → Effect t id R a → Slotwise (filled id) (t .slots) (a .table .slots)
   rows a (refuses n k) = row-same (filled id) (t .slots)
   rows a (turns e r l q d) = row-put (filled id) (t .slots) (r .entry) (turned-identity e r q d)
-  rows a (loads e m l p i g n r) = subst (λ (x : Text). Row x (t .slots) m) i (row-place e p)
+  rows a (loads e m l p i g n r) = subst (λ (x : Text). Slotwise x (t .slots) m) i (row-place e p)
   rows a (empties e l q r) = row-empty (filled id) (t .slots)
 
   -- ---- a legal table stays legal
 
   -- other slots, as many, each legal, identities that differ
-  stays-whole : (m : List Entry) → Legal t → Row (filled id) (t .slots) m → slots-legal m ≡ true
+  stays-whole : (m : List Entry) → Legal t → Slotwise (filled id) (t .slots) m → slots-legal m ≡ true
       → apart (t .own ∷ identities m) ≡ true → legal (holding t m) ≡ true
   stays-whole m p r f g = legal-whole (holding t m) (record {
     size = rw (row-length (filled id) (t .slots) m r) (p .size);
@@ -114,7 +115,7 @@ module _ (t : Table) (id : Text) (R : Text → Type 0) where
       let c = and-true (differs (t .own) (identities (t .slots))) (apart (identities (t .slots))) (b .differ) in
       let o : same (e .identity .bytes) (t .own) ≡ false =
       ap (λ (x : Text). same x (t .own)) i ∙ flip (t .own) (filled id) (not-true (same (t .own) (filled id)) (d .0)) in
-      stays-whole m b (subst (λ (x : Text). Row x (t .slots) m) i (row-place e p)) (legal-place e p g (b .entries))
+      stays-whole m b (subst (λ (x : Text). Slotwise x (t .slots) m) i (row-place e p)) (legal-place e p g (b .entries))
       (and-join _ _ (differs-place e f (t .own) p (c .0) o)
       (apart-place e f p (c .1) (ap (λ (x : Text). differs x (identities (t .slots))) i ∙ d .1)))
   legals a (empties e l q r) h =

@@ -9,15 +9,15 @@ use native.Mathlib.Omega.{arith}
 use lib.Dec.{eqb, ltb}
 use borrow.Author.Tests.{eqb-true, ltb-false, le-ltb, ne-eqb, eq-eqb, not-false}
 use Rattle.octets.specs.Text.{Text, same, within, is-run}
-use Rattle.octets.specs.Part.{bare}
+use Rattle.octets.specs.Part.{bare, found}
+use Rattle.octets.proofs.Comparing.{same-equal as same-true, same-self as same-refl}
 use Rattle.keying.specs.Parity.{odd}
 use Rattle.keying.specs.Mac.{mac-key, mac}
 use Rattle.keying.specs.Iv.{reveal}
 use Rattle.keying.specs.Date.{is-date}
 use Rattle.csm.specs.Fields.{Kd, named, numeral}
 use Rattle.csm.specs.Covered.{covered}
-use Rattle.csm.specs.Message.{Ksm, found}
-use Rattle.csm.proofs.TextLaws.{same-true, same-refl}
+use Rattle.csm.specs.Message.{Ksm}
 use Rattle.partner.specs.declared.DataKey.{DataKey}
 use Rattle.partner.specs.declared.KeySet.{KeySet}
 use Rattle.partner.specs.declared.Entry.{Entry}

@@ -5,8 +5,9 @@ use mathlib.Core.List.{[]}
 use mathlib.Core.Option.{Option, none, some}
 use Prim.Native.Nat.{ℕ}
 use Rattle.octets.specs.Text.{Text, same}
+use Rattle.octets.proofs.Comparing.{same-self as same-refl}
 use Rattle.csm.specs.Fields.{named, legal-name}
-use Rattle.csm.proofs.TextLaws.{or-right, same-refl}
+use Rattle.csm.proofs.TextLaws.{or-right}
 use Rattle.partner.specs.Entry.{blanks, filled, name-of}
 use Rattle.partner.specs.Legal.{is-filled, is-named}
 use Rattle.partner.proofs.Claims.{claims}

@@ -5,20 +5,21 @@ use mathlib.Core.List.{List, [], _∷_}
 use mathlib.Core.Option.{Option, none, some}
 use Prim.Native.Nat.{ℕ}
 use lib.Dec.{eqb}
-use borrow.Author.Tests.{eqb-true, eqb-false}
+use borrow.Author.Tests.{eqb-true}
 use Rattle.octets.specs.Text.{Text, same, is-name, stands}
-use Rattle.octets.specs.Part.{bare}
+use Rattle.octets.specs.Part.{bare, found}
 use Rattle.octets.specs.First.{Order, first, Numbered, end, more}
 use Rattle.octets.proofs.Firsts as firsts
 use Rattle.keying.specs.declared.Top.{Top}
 use Rattle.keying.specs.Keys.{odd-top}
 use Rattle.csm.specs.Format.{value}
 use Rattle.csm.specs.Fields.{svr}
-use Rattle.csm.specs.Message.{Body, rsi, ksm, rsm, esm, option, Reading, read, found}
+use Rattle.csm.specs.Message.{Body, rsi, ksm, rsm, esm, option, Reading, read}
 use Rattle.partner.specs.declared.Entry.{Entry}
 use Rattle.partner.specs.Entry.{limit, name-of}
 use Rattle.partner.specs.Changes.{loaded}
-use Rattle.partner.specs.Table.{Table, legal, place}
+use Rattle.partner.specs.Table.{Table, legal, into-free-slot}
+use Rattle.partner.proofs.Ruling.{not-0}
 use Rattle.calls.specs.declared.Request.{Request}
 use Rattle.calls.specs.Words.{if_then_else_, any}
 use Rattle.calls.specs.Outcome.{Turn}
@@ -27,13 +28,9 @@ use Rattle.calls.specs.Receive.{foreign, uneven, kds, brought, faults, b
 use Rattle.calls.specs.Build as building
 use Rattle.calls.specs.Build.{used, not-odd, malformed}
 use Rattle.calls.specs.Calls.{Act, build-ksm, build-rsi, give-up, remove, ask, Call, receive, about, load, After, entry-of}
-use Rattle.calls.specs.Calls.{turned, at-partner, receiving, bad-identity, loading, placed, short, no-room, acting, perform, run}
+use Rattle.calls.specs.Calls.{after-turn, at-partner, receiving, bad-identity, loading, after-load, short, no-room, acting, perform, run}
 use Rattle.calls.specs.Orders.{by-class, by-act, at-entry, of-text, in-order, order, act-answers}
 use Rattle.calls.specs.Orders.{answers, Orders}
-
--- no number here is 0
-not-0 : (n : ℕ) → eqb n 0 ≡ false → n ≡ 0 → ⊥
-not-0 n h = eqb-false n 0 h
 
 -- the answer of a is the first of the order
 record Walks {A : Type 0} (answer : A → ℕ) (a : A) (ts : Order) : Type 0 where
@@ -104,7 +101,7 @@ about-first : (t : Table) (id : Text) (turn : Entry → Turn) (rest : Entry → 
 unfolding at-partner
 about-first t id turn rest h = go (entry-of id t)
   where
-    go : (o : Option Entry) → Walks of-call (turned t id turn o) (at-entry o rest)
+    go : (o : Option Entry) → Walks of-call (after-turn t id turn o) (at-entry o rest)
     go none = record { is = refl }
     go (some e) = record { is = h e .is }
 
@@ -122,9 +119,9 @@ unfolding loading
 load-first t id name top =
     asks (bad-identity t id) 10 _ _ refl refl
     (asks (not (is-name name)) 12 _ _ refl refl
-    (asks (not (odd-top top)) 11 _ _ refl refl (go (place (loaded (name-of id) (name-of name) top) (t .slots)))))
+    (asks (not (odd-top top)) 11 _ _ refl refl (go (into-free-slot (loaded (name-of id) (name-of name) top) (t .slots)))))
   where
-    go : (o : Option (List Entry)) → Walks of-call (placed t o) ((not (found o), 9) ∷ [])
+    go : (o : Option (List Entry)) → Walks of-call (after-load t o) ((not (found o), 9) ∷ [])
     go none = record { is = refl }
     go (some slots) = record { is = refl }
 

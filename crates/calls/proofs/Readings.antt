@@ -7,11 +7,12 @@ use Prim.Native.Nat.{ℕ, _/_, _%_, _^_, _<_}
 use native.Mathlib.Omega.{arith}
 use borrow.Author.Tests.{lt-ltb}
 use Rattle.octets.specs.Text.{Text, within, run-char, is-name}
+use Rattle.octets.proofs.Comparing.{both as and-true}
 use Rattle.csm.specs.Format.{maybe-legal}
 use Rattle.csm.specs.Fields.{Kd, field, KD, IV, EDK, CTP, MAC, hex, hex-text, kd, iv, legal-name, has-P}
 use Rattle.csm.specs.Message.{Body, Ksm, Esm, ksm, esm, legal-body, print}
 use Rattle.csm.specs.Message.{counts-with-P, closed, esm-row, esm-values}
-use Rattle.csm.proofs.TextLaws.{and-true, within-true, true-within, all-weaker}
+use Rattle.csm.proofs.TextLaws.{within-true, true-within, all-weaker}
 use Rattle.csm.proofs.NumberLaws.{hex-run}
 use Rattle.csm.proofs.MessageLaws.{read-there}
 use Rattle.csm.proofs.LengthLaws.{known, known-legal}

@@ -10,24 +10,24 @@ use lib.Dec.{ltb}
 use borrow.Author.Tests.{le-ltb, lt-ltb, not-false, not-true}
 use Rattle.octets.specs.Text.{Text, same, is-name}
 use Rattle.octets.specs.Part.{bare}
+use Rattle.octets.proofs.Comparing.{both as and-true, same-equal as same-true, same-self as same-refl}
 use Rattle.keying.specs.declared.Top.{Top}
 use Rattle.keying.specs.declared.Top.the-variants.{Single, Pair}
 use Rattle.keying.specs.Keys.{odd-top}
 use Rattle.csm.specs.Format.{value}
 use Rattle.csm.specs.Fields.{svr}
 use Rattle.csm.specs.Message.{Reading, read}
-use Rattle.csm.proofs.TextLaws.{and-true, same-true, same-refl}
 use Rattle.partner.specs.declared.Entry.{Entry}
 use Rattle.partner.specs.Entry.{filled, name-of, top-of, empty}
 use Rattle.partner.specs.Changes.{loaded}
 use Rattle.partner.proofs.Claims.{claims}
-use Rattle.partner.specs.Table.{Table, legal, is-empty, identities, differs, find, put, place, behind, holding, empties}
+use Rattle.partner.specs.Table.{Table, legal, is-empty, identities, differs, find, put, into-free-slot, behind, holding, empties}
 use Rattle.calls.specs.Words.{if_then_else_}
 use Rattle.calls.specs.Outcome.{Turn, success, nothing, refused}
 use Rattle.calls.specs.Receive as by-class
 use Rattle.calls.specs.Build as building
 use Rattle.calls.specs.Calls.{Call, receive, about, build-ksm, build-rsi, give-up, load, remove, ask, After, refuse, start}
-use Rattle.calls.specs.Calls.{entry-of, turned, at-partner, receiving, bad-identity, loading, placed, emptied, told}
+use Rattle.calls.specs.Calls.{entry-of, after-turn, at-partner, receiving, bad-identity, loading, after-load, emptied, unturned}
 use Rattle.calls.specs.Calls.{perform, run}
 use Rattle.calls.specs.Good.{Good-identity}
 use Rattle.calls.specs.Refusals.{In-use, Empty, Loads, Refusals}
@@ -61,7 +61,7 @@ unasked t a = if-false false _ _ refl
 
 nobody : (t : Table) (id : Text) (f : Entry → Turn) → entry-of id t ≡ none → at-partner t id f ≡ refuse t 3
 unfolding at-partner
-nobody t id f h = ap (turned t id f) h
+nobody t id f h = ap (after-turn t id f) h
 
 module _ (t : Table) (room : ℕ) (text : Text) (l : legal t ≡ true) (e : 256 ≤ room) where
   receive-way : run t (receive room text) ≡ receiving t text (read text)
@@ -111,7 +111,7 @@ service-refused : (t : Table) (room : ℕ) (id contents : Text) (e : Entry) → 
 unfolding perform at-partner
 service-refused t room id contents e l r k h =
     lawful t (about id (build-rsi room contents)) l ∙ roomy t room _ r
-    ∙ ap (turned t id (λ e. building.build-rsi (bare (t .own)) e contents)) k
+    ∙ ap (after-turn t id (λ e. building.build-rsi (bare (t .own)) e contents)) k
     ∙ (λ j. record {
       outcome = no-service (bare (t .own)) e contents h j .outcome;
       table = holding t (put (filled id) (no-service (bare (t .own)) e contents h j .entry) (t .slots));
@@ -122,14 +122,14 @@ gone : (t : Table) (id : Text) (e : Entry) → legal t ≡ true → entry-of id 
     → (run t (about id remove) .outcome ≡ success [] nothing) × (entry-of id (run t (about id remove) .table) ≡ none)
 unfolding perform at-partner
 gone t id e l k =
-    let p = lawful t (about id remove) l ∙ unasked t _ ∙ ap (turned t id emptied) k in
+    let p = lawful t (about id remove) l ∙ unasked t _ ∙ ap (after-turn t id emptied) k in
     (ap (λ (a : After). a .outcome) p, ap (λ (a : After). entry-of id (a .table)) p ∙ emptied-after t id e l (entry-held t id e k))
 
 is-found : (t : Table) (id : Text) (e : Entry) → legal t ≡ true → entry-of id t ≡ some e
     → run t (about id ask) ≡ record { outcome = success [] nothing; table = t }
 unfolding perform at-partner
 is-found t id e l k =
-    lawful t (about id ask) l ∙ unasked t _ ∙ ap (turned t id told) k
+    lawful t (about id ask) l ∙ unasked t _ ∙ ap (after-turn t id unturned) k
     ∙ (λ j. record { outcome = success [] nothing; table = same-table t id e k j })
 
 -- ---- load
@@ -174,7 +174,7 @@ identity-good t id h =
     }
 
 -- where each slot is in use, none is free; else the lowest is taken
-none-free : (x : Entry) (l : List Entry) → In-use l → place x l ≡ none
+none-free : (x : Entry) (l : List Entry) → In-use l → into-free-slot x l ≡ none
 none-free x [] h = refl
 none-free x (e ∷ l) h = rw (h e (List·Memᴰ·head refl), none-free x l (λ f i. h f (List·Memᴰ·tail i)))
 
@@ -185,7 +185,7 @@ record Lowest (x : Entry) (l : List Entry) : Type 0 where
   slots : l ≡ before ++ (free ∷ after)
   in-use : In-use before
   is-free : is-empty free ≡ true
-  placed : place x l ≡ some (before ++ (x ∷ after))
+  placed : into-free-slot x l ≡ some (before ++ (x ∷ after))
 
 lowest : (x : Entry) (l : List Entry) → In-use l ⊎ Lowest x l
 lowest x [] = inl (λ e i. absurd (List·Memᴰ·not-nil i))
@@ -248,14 +248,14 @@ module _ (t : Table) (id name : Text) (top : Top) (l : legal t ≡ true) where
           ∙ if-false (not (is-name name)) _ _ (ap not n) ∙ if-true (not (odd-top top)) _ _ (ap not o)
 
       module _ (o : odd-top top ≡ true) where
-        place-way : run t (load id name top) ≡ placed t (place (loaded (name-of id) (name-of name) top) (t .slots))
+        place-way : run t (load id name top) ≡ after-load t (into-free-slot (loaded (name-of id) (name-of name) top) (t .slots))
         unfolding loading
         place-way =
             load-way ∙ if-false (bad-identity t id) _ _ (good-identity t id g)
             ∙ if-false (not (is-name name)) _ _ (ap not n) ∙ if-false (not (odd-top top)) _ _ (ap not o)
 
         is-9 : In-use (t .slots) → run t (load id name top) ≡ refuse t 9
-        is-9 f = place-way ∙ ap (placed t) (none-free (loaded (name-of id) (name-of name) top) (t .slots) f)
+        is-9 f = place-way ∙ ap (after-load t) (none-free (loaded (name-of id) (name-of name) top) (t .slots) f)
 
         top-back : (k : Top) → top-of (loaded (name-of id) (name-of name) k) ≡ k
         unfolding loaded top-of
@@ -271,7 +271,7 @@ module _ (t : Table) (id name : Text) (top : Top) (l : legal t ≡ true) where
 
             go : In-use (t .slots) ⊎ Lowest (loaded (name-of id) (name-of name) top) (t .slots) → Loads id name top t (run t (load id name top))
             go (inl h) = absurd (f h)
-            go (inr w) = subst (Loads id name top t) (sym (place-way ∙ ap (placed t) (w .placed))) (record {
+            go (inr w) = subst (Loads id name top t) (sym (place-way ∙ ap (after-load t) (w .placed))) (record {
               done = refl;
               before = w .before;
               free = w .free;

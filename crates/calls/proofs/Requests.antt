@@ -9,13 +9,13 @@ use lib.Dec.{eqb, ltb}
 use borrow.Author.Tests.{eqb-true, not-false}
 use Rattle.octets.specs.Text.{Text, is-run}
 use Rattle.octets.specs.Part.{bare}
+use Rattle.octets.proofs.Comparing.{both as and-true}
 use Rattle.keying.specs.Iv.{conceal}
 use Rattle.keying.specs.Date.{is-date, is-day, is-time, two as pair-of}
 use Rattle.keying.proofs.Laws.{seal-lt}
 use Rattle.csm.specs.Format.{maybe-legal}
 use Rattle.csm.specs.Fields.{KD, IV, EDK, field, kd, legal-name}
 use Rattle.csm.specs.Message.{legal-body}
-use Rattle.csm.proofs.TextLaws.{and-true}
 use Rattle.partner.specs.declared.Entry.{Entry}
 use Rattle.partner.specs.Entry.{name-of, keys-in}
 use Rattle.partner.specs.Legal.{is-filled, is-named, keys-formed, legal}

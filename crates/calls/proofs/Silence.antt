@@ -9,7 +9,7 @@ use Rattle.partner.specs.declared.Entry.{Entry}
 use Rattle.partner.specs.Table.{Table}
 use Rattle.calls.specs.Outcome.{Turn}
 use Rattle.calls.specs.Receive as by-class
-use Rattle.calls.specs.Calls.{receive, After, entry-of, turned, at-partner, receiving, perform, run}
+use Rattle.calls.specs.Calls.{receive, After, entry-of, after-turn, at-partner, receiving, perform, run}
 use Rattle.calls.specs.Claims.{Carries}
 use Rattle.calls.proofs.Tests.{by-case}
 
@@ -26,7 +26,7 @@ mute-partner : (t : Table) (id : Text) (turn : Entry → Turn) → ((e : Entry) 
 unfolding at-partner
 mute-partner t id turn h = go (entry-of id t)
   where
-    go : (o : Option Entry) → Mute (turned t id turn o)
+    go : (o : Option Entry) → Mute (after-turn t id turn o)
     go none = refl
     go (some e) = h e
 

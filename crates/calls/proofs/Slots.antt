@@ -10,14 +10,14 @@ use lib.ListN.{length}
 use borrow.Author.Tests.{eqb-true}
 use Rattle.octets.specs.Text.{Text, same}
 use Rattle.octets.specs.Number.{copies}
-use Rattle.csm.proofs.TextLaws.{and-true, same-true, same-refl}
+use Rattle.octets.proofs.Comparing.{both as and-true, same-equal as same-true, same-self as same-refl}
 use Rattle.partner.specs.declared.Entry.{Entry}
 use Rattle.partner.specs.Entry.{empty}
 use Rattle.partner.specs.Legal as partner
 use Rattle.partner.specs.Record.{entry-bytes, front-bytes, top-bytes, count-bytes, place-bytes, set-bytes}
 use Rattle.partner.proofs.Keeping.{rules}
 use Rattle.partner.specs.Table.{is-empty, slots-legal, find, put}
-use Rattle.calls.specs.Claims.{kept, turned, emptied, Row, end, next}
+use Rattle.calls.specs.Claims.{kept, turned, emptied, Slotwise, end, next}
 use Rattle.calls.proofs.Tests.{never, or-right, and-join}
 
 abbrev Slots : Type 0
@@ -95,29 +95,29 @@ module _ (id : Text) where
 
   -- ---- every other slot
 
-  pub row-same : (l : Slots) → Row id l l
+  pub row-same : (l : Slots) → Slotwise id l l
   row-same [] = end
   row-same (e ∷ l) = next (kept e) (row-same l)
 
-  pub row-put : (l : Slots) (f : Entry) → f .identity .bytes ≡ id → Row id l (put id f l)
+  pub row-put : (l : Slots) (f : Entry) → f .identity .bytes ≡ id → Slotwise id l (put id f l)
   row-put [] f g = end
   row-put (e ∷ l) f g = go (same (e .identity .bytes) id) refl (row-put l f g)
     where
-      go : (b : Bool) → same (e .identity .bytes) id ≡ b → Row id l (put id f l)
-          → Row id (e ∷ l) (cond b (f ∷ l) (e ∷ put id f l))
+      go : (b : Bool) → same (e .identity .bytes) id ≡ b → Slotwise id l (put id f l)
+          → Slotwise id (e ∷ l) (cond b (f ∷ l) (e ∷ put id f l))
       go true q r = next (turned e f (same-true (e .identity .bytes) id q) g) (row-same l)
       go false q r = next (kept e) r
 
-  pub row-empty : (l : Slots) → Row id l (put id empty l)
+  pub row-empty : (l : Slots) → Slotwise id l (put id empty l)
   row-empty [] = end
   row-empty (e ∷ l) = go (same (e .identity .bytes) id) refl (row-empty l)
     where
-      go : (b : Bool) → same (e .identity .bytes) id ≡ b → Row id l (put id empty l)
-          → Row id (e ∷ l) (cond b (empty ∷ l) (e ∷ put id empty l))
+      go : (b : Bool) → same (e .identity .bytes) id ≡ b → Slotwise id l (put id empty l)
+          → Slotwise id (e ∷ l) (cond b (empty ∷ l) (e ∷ put id empty l))
       go true q r = next (emptied e (same-true (e .identity .bytes) id q)) (row-same l)
       go false q r = next (kept e) r
 
-  pub row-length : (l m : Slots) → Row id l m → length m ≡ length l
+  pub row-length : (l m : Slots) → Slotwise id l m → length m ≡ length l
   row-length l m end = refl
   row-length l m (next {l = k} {m = n} s r) = let i = row-length k n r in omega arith
 

@@ -21,7 +21,7 @@ use Rattle.calls.specs.Receive as by-class
 use Rattle.calls.specs.Receive.{brought, iv-of, is-waiting, receive-rsm, receive-esm, after-esm}
 use Rattle.calls.specs.Build as building
 use Rattle.calls.specs.Build.{used, not-odd, malformed, outgoing-of, ksm-text}
-use Rattle.calls.specs.Calls.{receive, about, build-ksm, give-up, After, entry-of, turned, at-partner, perform, run}
+use Rattle.calls.specs.Calls.{receive, about, build-ksm, give-up, After, entry-of, after-turn, at-partner, perform, run}
 use Rattle.calls.specs.Claims.{Carries, Sized}
 use Rattle.calls.specs.Good.{Good-ksm, Sealed, Odd-where-marked, Formed-request, Good-request}
 use Rattle.calls.specs.Results.{Accepts, Confirms, Breaks, raised-to}
@@ -43,7 +43,7 @@ use Rattle.calls.proofs.Judging.{accepted-is-good, taken-is-good, built
 use Rattle.calls.proofs.Complaining.{received}
 use Rattle.calls.proofs.Effects.{run-effect}
 use Rattle.calls.proofs.Laws.{owns, legals}
-use Rattle.calls.proofs.Exchange.{accepts, keys-back, iv-arrives, date-arrives, sent-count}
+use Rattle.calls.proofs.Exchange.{accepts, keys-back, iv-arrives, date-arrives, sent-count, issued-waits, issued-outgoing}
 use Rattle.calls.proofs.Tables.{turned-after}
 
 -- ---- a KSM
@@ -224,7 +224,7 @@ give-up-turns : (t : Table) (id : Text) (e : Entry) → legal t ≡ true → ent
     → run t (about id give-up) ≡ put-back t id (building.give-up e)
 unfolding run perform at-partner
 give-up-turns t id e l k =
-    if-true (legal t) _ _ l ∙ if-false false _ _ refl ∙ ap (turned t id building.give-up) k
+    if-true (legal t) _ _ l ∙ if-false false _ _ refl ∙ ap (after-turn t id building.give-up) k
 
 given-up-turn : (e : Entry) → is-waiting e ≡ true → building.give-up e ≡ done (given-up e) [] nothing
 unfolding building.give-up
@@ -348,14 +348,6 @@ pub built-good : (t : Table) (room : ℕ) (id : Text) (q : Request) (e : Entry) 
 built-good t room id q e k z = good e q (built-is-good t room id q e k z)
 
 -- ---- a whole exchange
-
-issued-waits : (e : Entry) (set : KeySet) → is-waiting (issued e set) ≡ true
-unfolding issued sending is-waiting
-issued-waits e set = refl
-
-issued-outgoing : (e : Entry) (set : KeySet) → issued e set .outgoing ≡ set
-unfolding issued sending
-issued-outgoing e set = refl
 
 module _ (t u : Table) (e f : Entry) (q : Request) (room : ℕ) (p : Partners t u e f) (g : Good-request e q)
     (sized : Sized q) (roomy : 256 ≤ room) where

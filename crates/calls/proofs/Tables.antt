@@ -7,7 +7,8 @@ use lib.Dec.{eqb}
 use lib.ListN.{length}
 use Rattle.octets.specs.Text.{Text, is-name}
 use Rattle.octets.specs.Part.{bare}
-use Rattle.csm.proofs.TextLaws.{and-true, none-some}
+use Rattle.octets.proofs.Comparing.{both as and-true}
+use Rattle.csm.proofs.TextLaws.{none-some}
 use Rattle.partner.specs.declared.Entry.{Entry}
 use Rattle.partner.specs.declared.Name.{Name}
 use Rattle.partner.specs.Entry.{empty, filled}

@@ -10,10 +10,11 @@ use lib.Dec.{eqb}
 use borrow.Author.Tests.{eqb-true, eqb-false, not-true, not-false, ltb-false}
 use Rattle.octets.specs.Text.{Text, same, within, is-name}
 use Rattle.octets.specs.Part.{bare}
+use Rattle.octets.proofs.Comparing.{both as and-true}
 use Rattle.csm.specs.Format.{value, maybe-legal}
 use Rattle.csm.specs.Fields.{KD, CTP, field, Kd, kd, svr}
 use Rattle.csm.specs.Message.{Body, Ksm, rsi, ksm, rsm, esm, option, legal-body, print}
-use Rattle.csm.proofs.TextLaws.{and-true, within-true}
+use Rattle.csm.proofs.TextLaws.{within-true}
 use Rattle.partner.specs.declared.KeySet.{KeySet}
 use Rattle.partner.specs.declared.Entry.{Entry}
 use Rattle.partner.specs.Entry.{limit, waiting}

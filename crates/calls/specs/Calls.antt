@@ -12,7 +12,7 @@ use Rattle.csm.specs.Message.{Reading, read}
 use Rattle.partner.specs.declared.Entry.{Entry}
 use Rattle.partner.specs.Entry.{empty, filled, name-of}
 use Rattle.partner.specs.Changes.{loaded}
-use Rattle.partner.specs.Table.{Table, legal, identities, differs, find, put, place, holding, started}
+use Rattle.partner.specs.Table.{Table, legal, identities, differs, find, put, into-free-slot, holding, started}
 use Rattle.calls.specs.declared.Request.{Request}
 use Rattle.calls.specs.Words.{if_then_else_}
 use Rattle.calls.specs.Outcome.{Outcome, refusal, success, nothing, Turn, done}
@@ -49,13 +49,13 @@ abbrev pub entry-of : Text → Table → Option Entry
 entry-of id t = if is-name id then find (filled id) (t .slots) else none
 
 -- 3: partner not in the table
-abbrev pub turned : Table → Text → (Entry → Turn) → Option Entry → After
-turned t id turn none = refuse t 3
-turned t id turn (some e) =
+abbrev pub after-turn : Table → Text → (Entry → Turn) → Option Entry → After
+after-turn t id turn none = refuse t 3
+after-turn t id turn (some e) =
     record { outcome = turn e .outcome; table = holding t (put (filled id) (turn e .entry) (t .slots)) }
 
 unfoldable pub at-partner : Table → Text → (Entry → Turn) → After
-at-partner t id turn = turned t id turn (entry-of id t)
+at-partner t id turn = after-turn t id turn (entry-of id t)
 
 -- 6: reply room under 256
 abbrev pub short : ℕ → Bool
@@ -74,9 +74,9 @@ receiving t text (some r) =
 
 -- ---- load: 10 (identity malformed, our own, or taken), 12 (key name), 11 (top key), 9 (64 entries in use)
 
-abbrev pub placed : Table → Option (List Entry) → After
-placed t none = refuse t 9
-placed t (some slots) = record { outcome = success [] nothing; table = holding t slots }
+abbrev pub after-load : Table → Option (List Entry) → After
+after-load t none = refuse t 9
+after-load t (some slots) = record { outcome = success [] nothing; table = holding t slots }
 
 -- 10: identity malformed, our own, or taken
 abbrev pub bad-identity : Table → Text → Bool
@@ -87,15 +87,15 @@ loading t id name top =
     if bad-identity t id then refuse t 10 else
     if not (is-name name) then refuse t 12 else
     if not (odd-top top) then refuse t 11 else
-    placed t (place (loaded (name-of id) (name-of name) top) (t .slots))
+    after-load t (into-free-slot (loaded (name-of id) (name-of name) top) (t .slots))
 
 -- ---- an act: 6 where a reply may follow, 3, then its step; remove and ask for an entry have no answer of their own
 
 abbrev pub emptied : Entry → Turn
 emptied e = done empty [] nothing
 
-abbrev pub told : Entry → Turn
-told e = done e [] nothing
+abbrev pub unturned : Entry → Turn
+unturned e = done e [] nothing
 
 abbrev pub no-room : Act → Bool
 no-room (build-ksm room q) = short room
@@ -109,7 +109,7 @@ acting own (build-ksm room q) e = building.build-ksm own e q
 acting own (build-rsi room contents) e = building.build-rsi own e contents
 acting own give-up e = building.give-up e
 acting own remove e = emptied e
-acting own ask e = told e
+acting own ask e = unturned e
 
 -- ---- every call in a legal table
 

@@ -47,9 +47,9 @@ pub data Slot (id : Text) : Entry → Entry → Type 0 where
   emptied : (e : Entry) → e .identity .bytes ≡ id → Slot id e empty
 
 -- the same of each slot of a row
-pub data Row (id : Text) : List Entry → List Entry → Type 0 where
-  end : Row id [] []
-  next : {e f : Entry} {l m : List Entry} → Slot id e f → Row id l m → Row id (e ∷ l) (f ∷ m)
+pub data Slotwise (id : Text) : List Entry → List Entry → Type 0 where
+  end : Slotwise id [] []
+  next : {e f : Entry} {l m : List Entry} → Slot id e f → Slotwise id l m → Slotwise id (e ∷ l) (f ∷ m)
 
 -- ---- replies
 
@@ -118,7 +118,7 @@ pub record Claims : Type 0 where
       → Carries them us (esm m) text → run t (receive room text) .outcome .reply ≡ []
   -- the card's identity stays, and every other entry stays in its slot
   pub own-stays : (t : Table) (c : Call) → run t c .table .own ≡ t .own
-  pub others-stay : (t : Table) (c : Call) → Row (filled (subject c)) (t .slots) (run t c .table .slots)
+  pub others-stay : (t : Table) (c : Call) → Slotwise (filled (subject c)) (t .slots) (run t c .table .slots)
   -- a legal table stays legal
   pub stays-legal : (t : Table) (c : Call) → legal t ≡ true → legal (run t c .table) ≡ true
   -- a partner's counts never fall

@@ -7,16 +7,16 @@ use mathlib.Core.Option.{Option, none, some}
 use Prim.Native.Nat.{ℕ}
 use lib.Dec.{eqb}
 use Rattle.octets.specs.Text.{Text, same, is-name, stands}
-use Rattle.octets.specs.Part.{bare}
+use Rattle.octets.specs.Part.{bare, found}
 use Rattle.octets.specs.First.{Order, first, Given}
 use Rattle.keying.specs.Keys.{odd-top}
 use Rattle.csm.specs.Format.{value}
 use Rattle.csm.specs.Fields.{svr}
-use Rattle.csm.specs.Message.{Body, rsi, ksm, rsm, esm, option, Reading, read, found}
+use Rattle.csm.specs.Message.{Body, rsi, ksm, rsm, esm, option, Reading, read}
 use Rattle.partner.specs.declared.Entry.{Entry}
 use Rattle.partner.specs.Entry.{limit, name-of}
 use Rattle.partner.specs.Changes.{loaded}
-use Rattle.partner.specs.Table.{Table, legal, place}
+use Rattle.partner.specs.Table.{Table, legal, into-free-slot}
 use Rattle.calls.specs.Words.{any}
 use Rattle.calls.specs.Receive.{foreign, uneven, kds, brought, faults, bad-mac, is-waiting}
 use Rattle.calls.specs.Build.{used, not-odd, malformed}
@@ -62,7 +62,7 @@ in-order t (receive room text) = (short room, 6) ∷ of-text t text (read text)
 in-order t (about id a) = (no-room a, 6) ∷ at-entry (entry-of id t) (by-act a)
 in-order t (load id name top) =
     (bad-identity t id, 10) ∷ (not (is-name name), 12) ∷ (not (odd-top top), 11)
-    ∷ (not (found (place (loaded (name-of id) (name-of name) top) (t .slots))), 9) ∷ []
+    ∷ (not (found (into-free-slot (loaded (name-of id) (name-of name) top) (t .slots))), 9) ∷ []
 
 -- any call that is lent a table tests 13 before all else
 abbrev pub order : Table → Call → Order

@@ -6,14 +6,14 @@ use Prim.Native.Nat.{ℕ, _+_}
 use Prim.Native.Char.{code}
 use lib.Dec.{eqb, ltb}
 use Rattle.octets.specs.Text.{Text, same, is-run}
-use Rattle.octets.specs.Part.{bare}
+use Rattle.octets.specs.Part.{bare, found}
 use Rattle.keying.specs.Parity.{odd}
 use Rattle.keying.specs.Keys.{working, unseal}
 use Rattle.keying.specs.Mac.{mac-key, mac}
 use Rattle.keying.specs.Iv.{reveal}
 use Rattle.keying.specs.Date.{is-date}
 use Rattle.csm.specs.Fields.{Kd, named, numeral}
-use Rattle.csm.specs.Message.{Ksm, Rsm, Esm, Body, rsi, ksm, rsm, esm, option, Reading, print, found}
+use Rattle.csm.specs.Message.{Ksm, Rsm, Esm, Body, rsi, ksm, rsm, esm, option, Reading, print}
 use Rattle.csm.specs.Covered.{covered, covered-part}
 use Rattle.partner.specs.declared.DataKey.{DataKey}
 use Rattle.partner.specs.declared.KeySet.{KeySet}

@@ -1,4 +1,9 @@
-// What a host asks for when it has a key message built, as it hands it over: the request's 73 bytes, field by field.
+// What a host asks for when it has a key message built, as it hands it over: the request's 73 bytes, field by field; the room
+// for a reply, and the letters of an error.
+pub mod letters;
+
+// Less reply room is 6.
+pub const ROOM: usize = 256;
 
 // A data key of a request: the key, flags (bit 0: marked P, bit 1: IDK1 written, bit 2: IDK2 written), the name for IDK1.
 pub struct KeyRequest {

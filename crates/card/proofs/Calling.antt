@@ -1,5 +1,5 @@
 -- The way of a call over an image is the call on the image's table.
-use mathlib.Core.Path.{_≡_, refl, sym, ap, _∙_, subst}
+use mathlib.Core.Path.{_≡_, refl, sym, ap, _∙_}
 use mathlib.Core.Bool.{Bool, true, false, cond, not, _&&_, true≢false}
 use mathlib.Core.List.{List, [], _∷_}
 use mathlib.Core.Logic.{⊎-elim}
@@ -10,15 +10,15 @@ use lib.Dec.{eqb, ltb}
 use lib.ListN.{length, getD, set}
 use lib.Seq.{set-out}
 use borrow.Author.Tests.{ltb-true, ltb-false, eqb-false}
-use Rattle.octets.specs.Text.{Text, same, is-name}
-use Rattle.octets.specs.Part.{bare}
+use Rattle.octets.specs.Text.{Text, same}
+use Rattle.octets.specs.Part.{bare, found}
 use Rattle.octets.proofs.Firsts.{holds-first}
 use Rattle.csm.specs.Message.{Reading, read}
 use Rattle.partner.specs.declared.Entry.{Entry}
 use Rattle.partner.specs.Entry.{empty}
 use Rattle.partner.specs.Legal as partner
 use Rattle.partner.specs.Table.{Table, legal, is-empty, holding}
-use Rattle.image.specs.Image.{decode, encode, found, table-in}
+use Rattle.image.specs.Image.{decode, encode, table-in}
 use Rattle.image.specs.Places.{slot-place}
 use Rattle.image.specs.Results.{put-back, put-slot}
 use Rattle.image.proofs.Entries.{legal-full, empty-is}

@@ -1,5 +1,5 @@
 -- The claims of specs/Claims.antt, proved.
-use mathlib.Core.Path.{_≡_, refl, sym, ap, _∙_}
+use mathlib.Core.Path.{_≡_, refl, ap, _∙_}
 use mathlib.Core.Bool.{true, false}
 use mathlib.Core.List.{List, []}
 use mathlib.Core.Option.{Option, none, some}
@@ -9,18 +9,18 @@ use lib.Dec.{eqb}
 use lib.ListN.{length}
 use borrow.Author.Tests.{eqb-false}
 use Rattle.octets.specs.Text.{Text, stands}
-use Rattle.octets.specs.Part.{all-octets}
+use Rattle.octets.specs.Part.{all-octets, found}
 use Rattle.keying.specs.declared.Top.{Top}
 use Rattle.partner.specs.declared.Entry.{Entry}
 use Rattle.partner.specs.Entry.{name-of}
 use Rattle.partner.proofs.Naming.{filled-filled}
-use Rattle.partner.specs.Table.{Table, place}
-use Rattle.image.specs.Image.{decode, encode, found}
+use Rattle.partner.specs.Table.{Table, into-free-slot}
+use Rattle.image.specs.Image.{decode, encode}
 use Rattle.image.proofs.Images.{table-there}
 use Rattle.image.proofs.Claims as stored
 use Rattle.calls.specs.Outcome.{Outcome, nothing, refusal, success}
 use Rattle.calls.specs.Calls as calls
-use Rattle.calls.specs.Calls.{Call, load, about, remove, After, entry-of, turned, at-partner, placed, loading}
+use Rattle.calls.specs.Calls.{Call, load, about, remove, After, entry-of, after-turn, at-partner, after-load, loading}
 use Rattle.calls.specs.Calls.{emptied, perform, run}
 use Rattle.calls.proofs.Tests.{by-case}
 use Rattle.calls.proofs.Claims as call
@@ -127,10 +127,10 @@ load-runs-so t id name top =
     by-case Settled _ _ _
     (λ _. by-case Settled _ _ _ (λ _. refused-so _ (omega arith)) λ _.
     by-case Settled _ _ _ (λ _. refused-so _ (omega arith)) λ _.
-    by-case Settled _ _ _ (λ _. refused-so _ (omega arith)) λ _. go (place _ (t .slots)))
+    by-case Settled _ _ _ (λ _. refused-so _ (omega arith)) λ _. go (into-free-slot _ (t .slots)))
     (λ _. refused-so _ (omega arith))
   where
-    go : (o : Option (List Entry)) → Settled (placed t o)
+    go : (o : Option (List Entry)) → Settled (after-load t o)
     go none = refused-so _ (omega arith)
     go (some slots) = done-so []
 
@@ -140,7 +140,7 @@ remove-runs-so t id =
     by-case Settled _ _ _ (λ _. by-case Settled _ _ _ (λ _. refused-so _ (omega arith)) (λ _. go (entry-of id t)))
     (λ _. refused-so _ (omega arith))
   where
-    go : (o : Option Entry) → Settled (turned t id emptied o)
+    go : (o : Option Entry) → Settled (after-turn t id emptied o)
     go none = refused-so _ (omega arith)
     go (some e) = done-so []
 

@@ -11,11 +11,12 @@ use lib.ListN.{length}
 use borrow.Author.Tests.{lt-ltb}
 use Rattle.octets.specs.Text.{Text, all, within, run-char, is-name}
 use Rattle.octets.specs.Part.{bare, all-octets}
+use Rattle.octets.proofs.Comparing.{both as and-true}
 use Rattle.keying.proofs.Laws.{unseal-lt}
 use Rattle.csm.specs.Format.{value, maybe-legal}
 use Rattle.csm.specs.Fields.{KD, CTP, field, Kd, kd, svr, named, legal-name}
 use Rattle.csm.specs.Message.{Body, Ksm, rsi, ksm, rsm, esm, option, legal-body, Reading, read, print}
-use Rattle.csm.proofs.TextLaws.{and-true, within-true, all-weaker}
+use Rattle.csm.proofs.TextLaws.{within-true, all-weaker}
 use Rattle.csm.proofs.MessageLaws.{read-back, legal-parts as reading-parts}
 use Rattle.partner.specs.declared.KeySet.{KeySet}
 use Rattle.partner.specs.declared.Entry.{Entry}

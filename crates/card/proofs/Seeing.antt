@@ -10,7 +10,7 @@ use lib.ListN.{length, drop, getD, set}
 use lib.Seq.{getD-set-same, set-out}
 use borrow.Author.Tests.{lt-ltb, le-ltb}
 use Rattle.octets.specs.Text.{Text, same, is-name}
-use Rattle.octets.specs.Part.{bare}
+use Rattle.octets.specs.Part.{bare, found}
 use Rattle.csm.specs.Message.{Reading, read}
 use Rattle.csm.proofs.TextLaws.{none-some}
 use Rattle.partner.specs.declared.Entry.{Entry}
@@ -18,7 +18,7 @@ use Rattle.partner.specs.Entry.{empty, filled}
 use Rattle.partner.specs.Legal as partner
 use Rattle.partner.proofs.Claims as entries
 use Rattle.partner.specs.Table.{Table, legal, is-empty, find, put}
-use Rattle.image.specs.Image.{decode, found, slots-in}
+use Rattle.image.specs.Image.{decode, slots-in}
 use Rattle.image.specs.Places.{slot-of, free-slot}
 use Rattle.image.proofs.Entries.{empty-is}
 use Rattle.image.proofs.Images.{rules}

@@ -19,14 +19,14 @@ use Rattle.partner.specs.Changes.{loaded}
 use Rattle.partner.specs.Held.{Held}
 use Rattle.partner.specs.Legal as partner
 use Rattle.partner.proofs.Holding.{held-name-of, held-loaded}
-use Rattle.partner.specs.Table.{Table, AllHeld, legal, is-empty, find, put, place, behind, holding}
+use Rattle.partner.specs.Table.{Table, AllHeld, legal, is-empty, find, put, into-free-slot, behind}
 use Rattle.partner.proofs.Claims as entries
 use Rattle.image.specs.Image.{decode, encode, slot-bytes, slots-bytes}
 use Rattle.image.proofs.Entries.{empty-held, legal-full}
 use Rattle.image.proofs.Claims.{claims}
 use Rattle.calls.specs.Outcome.{Turn}
 use Rattle.calls.specs.Calls.{Act, build-ksm, build-rsi, give-up, remove, ask, Call, receive, about, load, After}
-use Rattle.calls.specs.Calls.{entry-of, turned, at-partner, receiving, placed, loading, emptied, told}
+use Rattle.calls.specs.Calls.{entry-of, after-turn, at-partner, receiving, after-load, loading, emptied, unturned}
 use Rattle.calls.specs.Calls.{acting, perform, run}
 use Rattle.calls.proofs.Tests.{by-case}
 use Rattle.calls.proofs.Tables.{own-name, entry-held, held-legal}
@@ -53,10 +53,10 @@ put-held id x (e ∷ slots) k (j, h) = go (same (e .identity .bytes) id) (put-he
     go true r = (k, h)
     go false r = (j, r)
 
-place-held : (x : Entry) (slots m : List Entry) → Held x → AllHeld slots → place x slots ≡ some m → AllHeld m
+place-held : (x : Entry) (slots m : List Entry) → Held x → AllHeld slots → into-free-slot x slots ≡ some m → AllHeld m
 place-held x [] m k h q = absurd (none-some _ q)
 place-held x (e ∷ slots) m k (j, h) q =
-    go (is-empty e) (place x slots) (λ n r. place-held x slots n k h r) q
+    go (is-empty e) (into-free-slot x slots) (λ n r. place-held x slots n k h r) q
   where
     go : (b : Bool) (o : Option (List Entry)) → ((n : List Entry) → o ≡ some n → AllHeld n)
         → cond b (some (x ∷ slots)) (behind e o) ≡ some m → AllHeld m
@@ -75,7 +75,7 @@ module _ (t : Table) (lawful : legal t ≡ true) (all : AllHeld (t .slots)) wher
   unfolding at-partner
   partner-holds id turn keeps = go (entry-of id t) refl
     where
-      go : (o : Option Entry) → entry-of id t ≡ o → Holds (turned t id turn o)
+      go : (o : Option Entry) → entry-of id t ≡ o → Holds (after-turn t id turn o)
       go none q = all
       go (some e) q =
           let k = entry-held t id e q in
@@ -94,10 +94,10 @@ module _ (t : Table) (lawful : legal t ≡ true) (all : AllHeld (t .slots)) wher
   load-holds id name top f =
       by-case Holds _ _ _ (λ _. all) λ i. by-case Holds _ _ _ (λ _. all) λ n. by-case Holds _ _ _ (λ _. all) λ _.
       go (both (is-name id) _ (not-false _ i) .0) (not-false _ n)
-      (place (loaded (name-of id) (name-of name) top) (t .slots)) refl
+      (into-free-slot (loaded (name-of id) (name-of name) top) (t .slots)) refl
     where
       go : is-name id ≡ true → is-name name ≡ true → (o : Option (List Entry))
-          → place (loaded (name-of id) (name-of name) top) (t .slots) ≡ o → Holds (placed t o)
+          → into-free-slot (loaded (name-of id) (name-of name) top) (t .slots) ≡ o → Holds (after-load t o)
       go i n none q = all
       go i n (some m) q =
           place-held (loaded (name-of id) (name-of name) top) (t .slots) m
@@ -112,7 +112,7 @@ module _ (t : Table) (lawful : legal t ≡ true) (all : AllHeld (t .slots)) wher
   act-holds give-up id f =
       partner-holds id _ (λ e l k. give-up-keeps (bare (t .own)) (own-name t lawful) e l k .held)
   act-holds remove id f = partner-holds id emptied (λ e l k. empty-held)
-  act-holds ask id f = partner-holds id told (λ e l k. k)
+  act-holds ask id f = partner-holds id unturned (λ e l k. k)
 
   perform-holds : (c : Call) → Of-64-bits c → Holds (perform t c)
   unfolding perform
@@ -163,7 +163,7 @@ module _ (image : Text) (t : Table) (d : decode image ≡ some t) (octets : all-
   unfolding at-partner encode
   partner-long id turn keeps = go (entry-of id t) refl
     where
-      go : (o : Option Entry) → entry-of id t ≡ o → As-long (turned t id turn o)
+      go : (o : Option Entry) → entry-of id t ≡ o → As-long (after-turn t id turn o)
       go none q = unchanged
       go (some e) q =
           let k = entry-held t id e q in
@@ -192,7 +192,7 @@ module _ (image : Text) (t : Table) (d : decode image ≡ some t) (octets : all-
       partner-long id _ (λ e l k. build-rsi-keeps (bare (t .own)) own e l k contents)
   act-long give-up id f p = partner-long id _ (λ e l k. give-up-keeps (bare (t .own)) own e l k)
   act-long remove id f p = absurd p
-  act-long ask id f p = partner-long id told (λ e l k. record { lawful = l; held = k; identity = refl })
+  act-long ask id f p = partner-long id unturned (λ e l k. record { lawful = l; held = k; identity = refl })
 
   perform-long : (c : Call) → Of-64-bits c → In-place c → As-long (perform t c)
   unfolding perform

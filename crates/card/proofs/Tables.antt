@@ -15,7 +15,7 @@ use Rattle.calls.specs.Words.{if_then_else_}
 use Rattle.calls.specs.Calls.{Call, refuse, run}
 use Rattle.calls.proofs.Tests.{if-true}
 use Rattle.calls.proofs.Tables.{legal-parts, own-name}
-use Rattle.sight.specs.Table.{table, over}
+use Rattle.sight.specs.Table.{table, over-row}
 
 module _ (image : Text) (t : Table) (d : decode image ≡ some t) where
   pub lawful-table : legal t ≡ true
@@ -28,8 +28,8 @@ module _ (image : Text) (t : Table) (d : decode image ≡ some t) where
   encode-is = claims .read-then-write image t d .1
 
 -- a call over the slots of a legal table is the call on the table
-pub agrees : (t : Table) → legal t ≡ true → (c : Call) → over (bare (t .own)) (t .slots) c ≡ run t c
-unfolding over
+pub agrees : (t : Table) → legal t ≡ true → (c : Call) → over-row (bare (t .own)) (t .slots) c ≡ run t c
+unfolding over-row
 agrees t l c =
     if-true (is-name (bare (t .own))) (run (table (bare (t .own)) (t .slots)) c)
     (refuse (table (bare (t .own)) (t .slots)) 13) (own-name t l)

@@ -1,6 +1,6 @@
 -- Ask, load and remove over an image: the way of the call where there is room for what they write, and what that is.
 use mathlib.Core.Path.{_≡_, refl, sym, ap, _∙_, subst}
-use mathlib.Core.Bool.{Bool, true, false, cond, not, true≢false}
+use mathlib.Core.Bool.{Bool, true, false, cond, not}
 use mathlib.Core.List.{List, [], _∷_}
 use mathlib.Core.Option.{Option, none, some}
 use Prim.Native.Nat.{ℕ, _^_, _<_, _≤_}
@@ -10,18 +10,18 @@ use lib.ListN.{length, getD, set}
 use lib.Seq.{getD-set-same}
 use borrow.Author.Tests.{lt-ltb, le-ltb, ltb-true, ltb-false, eqb-false, ne-eqb, not-false}
 use Rattle.octets.specs.Text.{Text, is-name}
-use Rattle.octets.specs.Part.{all-octets}
+use Rattle.octets.specs.Part.{all-octets, found}
+use Rattle.octets.proofs.Comparing.{both as and-true}
 use Rattle.keying.specs.declared.Top.{Top}
 use Rattle.keying.specs.Keys.{odd-top}
-use Rattle.csm.proofs.TextLaws.{and-true}
 use Rattle.partner.specs.declared.Entry.{Entry}
 use Rattle.partner.specs.Entry.{empty, filled, name-of}
 use Rattle.partner.specs.Record.{entry-bytes}
 use Rattle.partner.specs.Changes.{left-of, right-of, loaded}
 use Rattle.partner.specs.Held.{Held}
 use Rattle.partner.specs.Legal as partner
-use Rattle.partner.specs.Table.{Table, legal, is-empty, identities, differs, put, place, holding}
-use Rattle.image.specs.Image.{decode, encode, found, table-in}
+use Rattle.partner.specs.Table.{Table, legal, is-empty, identities, differs, put, into-free-slot, holding}
+use Rattle.image.specs.Image.{decode, encode, table-in}
 use Rattle.image.specs.Results.{added-slot, removed-slot}
 use Rattle.image.specs.Places.{slot-of, free-slot}
 use Rattle.image.proofs.Entries.{legal-full, empty-is}
@@ -29,7 +29,7 @@ use Rattle.image.proofs.Images.{rules, table-missing}
 use Rattle.image.proofs.Numbered.{slot-held, slot-found, free-found, load-slot-is, remove-slot-is}
 use Rattle.calls.specs.Words.{if_then_else_}
 use Rattle.calls.specs.Outcome.{Outcome, Turn, nothing, refusal, success, refused}
-use Rattle.calls.specs.Calls.{Call, After, about, ask, remove, load, refuse, entry-of, turned, emptied, placed, loading, perform, run}
+use Rattle.calls.specs.Calls.{Call, After, about, ask, remove, load, refuse, entry-of, after-turn, emptied, after-load, loading, perform, run}
 use Rattle.calls.specs.Calls.{at-partner as at-partner-of}
 use Rattle.partner.proofs.Claims as entries
 use Rattle.calls.proofs.Tables.{entry-held}
@@ -49,10 +49,10 @@ use Rattle.image.proofs.Claims as stored
 use Rattle.card.proofs.Keys.{top-fits}
 use Rattle.card.proofs.Claims.{written-read}
 use Rattle.card.proofs.Tables.{lawful-table}
-use Rattle.card.proofs.Seeing.{seen-is, slot-empty}
+use Rattle.card.proofs.Seeing.{seen-is}
 use Rattle.card.proofs.Calling.{table-read, blind-is, ends, table-is}
 use Rattle.card.proofs.Delivering.{ask-none, remove-none, load-none, ask-table, remove-table, load-table, too-short}
-use Rattle.card.proofs.Delivering.{long-enough, undelivered, delivers, load-with-is}
+use Rattle.card.proofs.Delivering.{long-enough, delivers, load-with-is}
 
 -- what a call gives by the turn on its way: that turn's refusal, or a text
 pub record Judged (o : Outcome) (r : Turn) (text : Text) : Type 0 where
@@ -241,7 +241,7 @@ module _ (image : Text) (d : decode image ≡ some (table-in image)) where
     unfolding run perform at-partner-of
     removed-table e q =
         sym (ap (λ (a : After). a .table)
-        (if-true (legal t) _ _ lawful ∙ if-false false _ _ refl ∙ ap (turned t id emptied) q))
+        (if-true (legal t) _ _ lawful ∙ if-false false _ _ refl ∙ ap (after-turn t id emptied) q))
 
     pub remove-written : removing .outcome .answer ≡ 0
         → removed-slot (seen (them id) image .at) image ≡ some (encode (run t (about id remove) .table))
@@ -283,7 +283,7 @@ module _ (image : Text) (d : decode image ≡ some (table-in image)) where
     -- with 0 there was a place for the new entry, which is legal
     abbrev Placed : List Entry → Type 0
     Placed after =
-        (m : List Entry) × (place new-entry (t .slots) ≡ some m) × (after ≡ m) × (partner.legal new-entry ≡ true)
+        (m : List Entry) × (into-free-slot new-entry (t .slots) ≡ some m) × (after ≡ m) × (partner.legal new-entry ≡ true)
 
     abbrev If-done : After → Type 0
     If-done a = a .outcome .answer ≡ 0 → Placed (a .table .slots)
@@ -292,7 +292,7 @@ module _ (image : Text) (d : decode image ≡ some (table-in image)) where
     not-done n z h = absurd (eqb-false n 0 z h)
 
     was-placed : is-name name ≡ true → odd-top top ≡ true → is-name id ≡ true → (o : Option (List Entry))
-        → place new-entry (t .slots) ≡ o → If-done (placed t o)
+        → into-free-slot new-entry (t .slots) ≡ o → If-done (after-load t o)
     was-placed n o i none q = not-done 9 refl
     was-placed n o i (some m) q = λ h. (
       m,
@@ -311,7 +311,7 @@ module _ (image : Text) (d : decode image ≡ some (table-in image)) where
         by-case If-done _ _ _ (λ _. not-done 11 refl) λ o.
         was-placed (not-false _ n) (not-false _ o)
         (and-true (is-name id) (differs (filled id) (t .own ∷ identities (t .slots))) (not-false _ i) .0)
-        (place new-entry (t .slots)) refl) (λ l. not-done 13 refl)
+        (into-free-slot new-entry (t .slots)) refl) (λ l. not-done 13 refl)
 
     spot-at : seen spot image .at ≡ free-slot image
     unfolding sought

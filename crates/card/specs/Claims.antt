@@ -6,12 +6,12 @@ use mathlib.Core.Option.{some}
 use Prim.Native.Nat.{ℕ, _^_, _<_, _≤_}
 use lib.ListN.{length}
 use Rattle.octets.specs.Text.{Text, stands}
-use Rattle.octets.specs.Part.{all-octets}
+use Rattle.octets.specs.Part.{all-octets, found}
 use Rattle.keying.specs.declared.Top.{Top}
 use Rattle.keying.specs.declared.Top.the-variants.{Single, Pair}
 use Rattle.partner.specs.Changes.{left-of, right-of}
 use Rattle.partner.specs.Table.{Table}
-use Rattle.image.specs.Image.{decode, found}
+use Rattle.image.specs.Image.{decode}
 use Rattle.calls.specs.declared.Request.{Request}
 use Rattle.calls.specs.Outcome.{Outcome, nothing, refusal, complaint, success}
 use Rattle.calls.specs.Calls.{Act, build-ksm, build-rsi, give-up, remove, ask, Call, receive, about, load, run}

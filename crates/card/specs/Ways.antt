@@ -1,18 +1,18 @@
 -- The way of a call over the image's bytes, as the code takes it: what is seen of the image, the turn of the entry, the
 -- entry put back. On the image of a table it is the way over that table (proofs/Calling.antt); no public contract cites it.
 use mathlib.Core.Path.{_≡_}
-use mathlib.Core.Bool.{Bool, true, false, cond, not}
+use mathlib.Core.Bool.{true, false, cond, not}
 use mathlib.Core.List.{[]}
 use mathlib.Core.Option.{Option, none, some}
 use Prim.Native.Nat.{ℕ}
 use lib.Dec.{eqb, ltb}
 use lib.ListN.{length, drop, getD}
 use Rattle.octets.specs.Text.{Text}
-use Rattle.octets.specs.Part.{bare}
+use Rattle.octets.specs.Part.{bare, found}
 use Rattle.keying.specs.declared.Top.{Top}
 use Rattle.keying.specs.declared.Top.the-variants.{Single}
 use Rattle.partner.specs.Entry.{empty}
-use Rattle.image.specs.Image.{decode, found, slots-in}
+use Rattle.image.specs.Image.{decode, slots-in}
 use Rattle.image.specs.Places.{own-in, slot-of, free-slot}
 use Rattle.image.specs.Results.{put-slot}
 use Rattle.calls.specs.Outcome.{Turn}

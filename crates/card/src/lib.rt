@@ -20,9 +20,7 @@ use sight::aims;
 use sight::aims::Act;
 use sight::aims::Aim;
 
-// The reply room that ask for an entry wants, and the largest image.
-const ROOM: usize = 256;
-
+// The largest image.
 const LARGEST: usize = 10_065;
 
 // ---- the way
@@ -115,7 +113,7 @@ pub fn ask(image: &[u8], partner: &[u8], reply: &mut [u8]) -> Report
     ensures { λ r. ⌜ over.Written (whole.ask-over (now (image .entry)) (length (now (reply .entry))) (now (partner .entry))) (now (reply .entry)) r (now (reply .exit)) ⌝ }
 {
     let act = Act::Ask;
-    let aim = aim_in(image, partner, act, b"", ROOM);
+    let aim = aim_in(image, partner, act, b"", calls::ROOM);
     let found = find(image, aim, act, b"", reply.len());
     if found.answer != 0 {
         return outcome::refusal(found.answer);

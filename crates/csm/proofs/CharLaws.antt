@@ -8,6 +8,7 @@ use Prim.Native.Char.{code}
 use lib.Dec.{eqb}
 use lib.ListN.{length}
 use Rattle.octets.specs.Text.{Text, ascii, blank, all}
+use Rattle.octets.proofs.Comparing.{both as and-true}
 use Rattle.csm.specs.Format.{maybe-legal, maybe-print}
 use Rattle.csm.specs.Fields.{Contents, tag, contents, field}
 use Rattle.csm.specs.Fields.{Field, MCL, RCV, ORG, SVR, KD, IV, EDK, CTP, CTR, ERF, MAC, EDC}
@@ -16,7 +17,7 @@ use Rattle.csm.specs.Message.{esm-row, rsi-values, ksm-values, rsm-value
 use Rattle.csm.specs.Message.{Body, rsi, ksm, rsm, esm, option, Reading, text-char, legal-body, print-body}
 use Rattle.csm.specs.Message.{head, head-of, message, fits, legal, print}
 use Rattle.csm.specs.Claims.{Message-text}
-use Rattle.csm.proofs.TextLaws.{and-true, within-true, all-append, all-weaker, all-free}
+use Rattle.csm.proofs.TextLaws.{within-true, all-append, all-weaker, all-free}
 use Rattle.csm.proofs.FieldLaws.{contents-char, contents-sound}
 use Rattle.csm.proofs.MessageLaws.{rest-right}
 

@@ -10,6 +10,7 @@ use lib.ListN.{length, take, drop, length-append}
 use lib.Seq.{take-at}
 use borrow.Author.Tests.{eqb-true, eqb-false, not-true, ne-eqb}
 use Rattle.octets.specs.Text.{Text, ascii, blank, free, starts}
+use Rattle.octets.proofs.Comparing.{both as and-true}
 use Rattle.csm.specs.Format.{maybe-legal, maybe-print}
 use Rattle.csm.specs.Fields.{tag, field, contents, hex-text}
 use Rattle.csm.specs.Fields.{Field, Contents, MCL, RCV, ORG, SVR, KD, IV, EDK, CTP, CTR, ERF, MAC, EDC}
@@ -18,7 +19,7 @@ use Rattle.csm.specs.Message.{print-body, legal-body, message, fits}
 use Rattle.csm.specs.Message.{Body, rsi, ksm, rsm, esm, option, Reading, legal, read, print}
 use Rattle.csm.specs.Covered.{before, covered, covered-part, covered-fields, keyed-row, keyed-values}
 use Rattle.csm.specs.Covered.{mac-of}
-use Rattle.csm.proofs.TextLaws.{and-true, some-inj, none-some, all-free}
+use Rattle.csm.proofs.TextLaws.{some-inj, none-some, all-free}
 use Rattle.csm.proofs.FieldLaws.{contents-char, contents-sound}
 use Rattle.csm.proofs.MessageLaws.{read-back}
 use Rattle.csm.proofs.CharLaws.{row-end, join}

@@ -8,9 +8,10 @@ use Prim.Native.String.{String}
 use lib.ListN.{length}
 use Rattle.octets.specs.Text.{Text, ascii, blank}
 use Rattle.octets.specs.Number.{copies}
+use Rattle.octets.specs.Part.{found}
 use Rattle.csm.specs.Format.{value}
 use Rattle.csm.specs.Fields.{Kd, kd, Class, RSI, KSM, DSM, ERS, RFS, RTR}
-use Rattle.csm.specs.Message.{Reading, Body, rsi, ksm, rsm, esm, option, read, print, found}
+use Rattle.csm.specs.Message.{Reading, Body, rsi, ksm, rsm, esm, option, read, print}
 use Rattle.csm.specs.Covered.{covered}
 
 -- to whom, from whom, what

@@ -13,6 +13,7 @@ use lib.Dec.{eqb, ltb}
 use lib.ListN.{length}
 use borrow.Author.Tests.{eqb-true, ne-eqb, ltb-true, not-true}
 use Rattle.octets.specs.Text.{Text, ascii, blank, dot, all, free, same, within, run-char, is-run}
+use Rattle.octets.proofs.Comparing.{both as and-true}
 use Rattle.csm.specs.Format.{Word, Format, plain, upto}
 use Rattle.csm.specs.Fields.{numeral, hex-text, hex, decimal, count, svr}
 use Rattle.csm.specs.Fields.{erf, Kd, sub, mark, named, subfields, legal-name, split, nonempty}
@@ -22,7 +23,7 @@ use Rattle.csm.specs.Fields.{tag, contents, field}
 use Rattle.csm.specs.Fields.{Class, RSI, KSM, RSM, ESM, DSM, ERS, RFS, RTR}
 use Rattle.csm.specs.Fields.{Field, MCL, RCV, ORG, SVR, KD, IV, EDK, CTP, CTR, ERF, MAC, EDC}
 use Rattle.csm.specs.Message.{text-char}
-use Rattle.csm.proofs.TextLaws.{and-true, within-true, true-within, all-append, all-weaker, all-free}
+use Rattle.csm.proofs.TextLaws.{within-true, true-within, all-append, all-weaker, all-free}
 use Rattle.csm.proofs.FormatLaws.{Right, Lawful, upto-lawful, pre-lawful, both-lawful, as-form-lawful}
 use Rattle.csm.proofs.NumberLaws.{hex-number, hex-run, decimal-number, decimal-counted}
 
@@ -140,7 +141,7 @@ mark-right : (p : Bool) → same (mark p) (ascii "P") ≡ p
 mark-right true = refl
 mark-right false = refl
 
-name-right : (o : Option Text) → legal-name o ≡ true → nonempty (named o) ≡ o
+pub name-right : (o : Option Text) → legal-name o ≡ true → nonempty (named o) ≡ o
 name-right none k = refl
 name-right (some []) k = cc
 name-right (some (x ∷ w)) k = refl

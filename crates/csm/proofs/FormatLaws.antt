@@ -7,11 +7,12 @@ use mathlib.Core.Option.{Option, none, some}
 use Prim.Native.Nat.{ℕ, suc, _<_}
 use lib.ListN.{length, getD, take, drop}
 use Rattle.octets.specs.Text.{Text, all, free, same, starts}
+use Rattle.octets.proofs.Comparing.{both as and-true, same-equal as same-true, same-self as same-refl}
 use Rattle.csm.specs.Format.{Word, Format, bind, after, until, value, upto, just, pre, both}
 use Rattle.csm.specs.Format.{maybe, maybe-legal, maybe-print, maybe-read, as-form, such-that, at-end}
 use Rattle.csm.specs.Format.{whole}
-use Rattle.csm.proofs.TextLaws.{some-inj, none-some, cond-some, bind-some, and-true, same-true}
-use Rattle.csm.proofs.TextLaws.{same-refl, all-free, after-there, after-back, until-there, until-back}
+use Rattle.csm.proofs.TextLaws.{some-inj, none-some, cond-some, bind-some}
+use Rattle.csm.proofs.TextLaws.{all-free, after-there, after-back, until-there, until-back}
 use Rattle.csm.proofs.TextLaws.{until-at, until-none}
 
 -- a word's guess is right, and each byte of its text passes the test p

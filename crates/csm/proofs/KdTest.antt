@@ -7,10 +7,10 @@ use Prim.Native.Nat.{ℕ}
 use lib.Dec.{eqb}
 use borrow.Author.Tests.{eqb-true}
 use Rattle.octets.specs.Text.{Text, ascii, dot, free, same, is-run, is-name}
+use Rattle.octets.proofs.Comparing.{both as and-true, same-equal as same-true}
 use Rattle.csm.specs.Format.{value}
 use Rattle.csm.specs.Fields.{numeral, hex-text, hex, Kd, sub, mark, named, subfields, legal-name, onto}
 use Rattle.csm.specs.Fields.{split, nonempty, kd-guess, kd}
-use Rattle.csm.proofs.TextLaws.{and-true, same-true}
 use Rattle.csm.proofs.FieldLaws.{split-one, split-more, hex-dotless, mark-dotless, name-dotless}
 use Rattle.csm.proofs.WordTests.{value-test, hex-forth, hex-passes}
 

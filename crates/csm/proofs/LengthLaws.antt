@@ -9,6 +9,7 @@ use lib.Dec.{leb}
 use lib.ListN.{length, length-append}
 use borrow.Author.Tests.{leb-true, ltb-true}
 use Rattle.octets.specs.Text.{Text, ascii, blank, all, within, run-char, is-run}
+use Rattle.octets.proofs.Comparing.{both as and-true}
 use Rattle.csm.specs.Format.{maybe-legal, maybe-print}
 use Rattle.csm.specs.Fields.{hex, hex-text, decimal, svr, erf, Kd, sub, mark, named, subfields}
 use Rattle.csm.specs.Fields.{legal-name, kd, class-text, tag, contents, Contents, field}
@@ -18,7 +19,7 @@ use Rattle.csm.specs.Message.{Row, one, opt, Values, fields, closed, hea
 use Rattle.csm.specs.Message.{esm-row, rsi-values, ksm-values, rsm-values, esm-values, counts-with-P}
 use Rattle.csm.specs.Message.{Body, rsi, ksm, rsm, esm, option, Reading, legal-body, print-body}
 use Rattle.csm.specs.Message.{head, head-of, message, legal, print}
-use Rattle.csm.proofs.TextLaws.{and-true, within-true, true-within}
+use Rattle.csm.proofs.TextLaws.{within-true, true-within}
 use Rattle.csm.proofs.NumberLaws.{hex-length, decimal-counted}
 use Rattle.csm.proofs.FieldLaws.{below-at}
 use Rattle.csm.proofs.CharLaws.{row-end, row-legal}

@@ -6,6 +6,7 @@ use mathlib.Core.Option.{Option, none, some}
 use Prim.Native.Char.{code}
 use lib.ListN.{length, drop}
 use Rattle.octets.specs.Text.{Text, ascii, all, starts, is-name}
+use Rattle.octets.proofs.Comparing.{both as and-true, starts-split as starts-back}
 use Rattle.csm.specs.Format.{Format, bind, after, plain, as-form, whole}
 use Rattle.csm.specs.Fields.{tag, contents}
 use Rattle.csm.specs.Fields.{Class, RSI, KSM, RSM, ESM, DSM, ERS, RFS, RTR}
@@ -18,7 +19,7 @@ use Rattle.csm.specs.Message.{counts-with-P, text-char, ends-blank, star
 use Rattle.csm.specs.Message.{is-option, is-rest, rest, legal-body, print-body, under, or-else}
 use Rattle.csm.specs.Message.{read-known, read-body, head-of, with-body, read-after, message, fits}
 use Rattle.csm.specs.Message.{legal, print, read}
-use Rattle.csm.proofs.TextLaws.{some-inj, none-some, cond-some, bind-some, and-true, starts-back}
+use Rattle.csm.proofs.TextLaws.{some-inj, none-some, cond-some, bind-some}
 use Rattle.csm.proofs.TextLaws.{clash, clash-none}
 use Rattle.csm.proofs.FormatLaws.{Right, Lawful, Back, upto-lawful, just-lawful, pre-lawful}
 use Rattle.csm.proofs.FormatLaws.{both-lawful, maybe-lawful, as-form-lawful, such-that-lawful}

@@ -9,8 +9,9 @@ use lib.Dec.{eqb, ltb}
 use lib.ListN.{length, length-append}
 use borrow.Author.Tests.{ltb-true, ltb-false, lt-ltb, le-ltb, ne-eqb, eqb-false, not-true}
 use Rattle.octets.specs.Text.{Text, all, within, run-char}
+use Rattle.octets.proofs.Comparing.{both as and-true}
 use Rattle.csm.specs.Fields.{digit, digit-value, numeral, hex-text, decimal}
-use Rattle.csm.proofs.TextLaws.{and-true, or-right, within-true, true-within, all-append, all-both}
+use Rattle.csm.proofs.TextLaws.{or-right, within-true, true-within, all-append, all-both}
 
 -- ---- digits
 

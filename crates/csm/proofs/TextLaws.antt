@@ -9,7 +9,8 @@ use lib.Dec.{eqb, leb}
 use lib.ListN.{length, getD, take, drop}
 use lib.Seq.{split-at}
 use borrow.Author.Tests.{eq-eqb, eqb-true, leb-true, le-leb, not-true}
-use Rattle.octets.specs.Text.{Text, all, free, same, starts, within}
+use Rattle.octets.specs.Text.{Text, all, free, starts, within}
+use Rattle.octets.proofs.Comparing.{both as and-true, starts-append as starts-there, starts-split as starts-back}
 use Rattle.csm.specs.Format.{bind, after, until}
 
 -- ---- an answer or none
@@ -33,10 +34,6 @@ module _ {A B : Type 0} where
 
 -- ---- tests
 
-pub and-true : (a b : Bool) → a && b ≡ true → (a ≡ true) × (b ≡ true)
-and-true true b e = (refl, e)
-and-true false b e = (e, cc)
-
 pub or-right : (a b : Bool) → b ≡ true → a || b ≡ true
 or-right true b e = refl
 or-right false b e = e
@@ -49,20 +46,6 @@ within-true low high x e =
 
 pub true-within : (low high x : ℕ) → low ≤ x → x ≤ high → within low high x ≡ true
 true-within low high x a b = rw (le-leb low x a, le-leb x high b)
-
-pub same-true : (v w : Text) → same v w ≡ true → v ≡ w
-same-true [] [] e = refl
-same-true [] (y ∷ w) e = cc
-same-true (x ∷ v) [] e = cc
-same-true (x ∷ v) (y ∷ w) e =
-    let h = and-true (eqb x y) (same v w) e in
-    let i = eqb-true x y (h .0) in
-    let j = same-true v w (h .1) in
-    cc
-
-pub same-refl : (w : Text) → same w w ≡ true
-same-refl [] = refl
-same-refl (x ∷ w) = rw (eq-eqb x x refl) (same-refl w)
 
 -- ---- a test that every byte passes
 
@@ -98,19 +81,6 @@ all-free p x z (y ∷ w) k =
     go false q e = refl
 
 -- ---- the front of a text
-
-pub starts-there : (w t : Text) → starts w (w ++ t) ≡ true
-starts-there [] t = refl
-starts-there (c ∷ w) t = rw (eq-eqb c c refl) (starts-there w t)
-
-pub starts-back : (w s : Text) → starts w s ≡ true → s ≡ w ++ drop (length w) s
-starts-back [] s e = refl
-starts-back (c ∷ w) [] e = cc
-starts-back (c ∷ w) (x ∷ s) e =
-    let h = and-true (eqb x c) (starts w s) e in
-    let i : s ≡ w ++ drop (length w) s = starts-back w s (h .1) in
-    let j : x ≡ c = eqb-true x c (h .0) in
-    λ k. j k ∷ i k
 
 pub drop-there : (w t : Text) → drop (length w) (w ++ t) ≡ t
 drop-there [] t = refl

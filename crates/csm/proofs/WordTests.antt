@@ -10,10 +10,11 @@ use lib.Dec.{eqb, leb, ltb}
 use lib.ListN.{length, getD}
 use borrow.Author.Tests.{eqb-true, le-leb, ltb-true, lt-ltb}
 use Rattle.octets.specs.Text.{Text, all, same, within, run-char, is-run}
+use Rattle.octets.proofs.Comparing.{both as and-true, same-equal as same-true, same-self as same-refl}
 use Rattle.csm.specs.Format.{Word, value, plain}
 use Rattle.csm.specs.Fields.{numeral, hex-text, hex, decimal, count, index, one-of, error-letters}
 use Rattle.csm.specs.Fields.{letters-of, letters-guess, erf}
-use Rattle.csm.proofs.TextLaws.{and-true, within-true, true-within, same-true, same-refl}
+use Rattle.csm.proofs.TextLaws.{within-true, true-within}
 use Rattle.csm.proofs.FormatLaws.{value-back}
 use Rattle.csm.proofs.NumberLaws.{hex-run, hex-length, hex-back, no-zero, decimal-back, decimal-counted}
 use Rattle.csm.proofs.FieldLaws.{below-at}

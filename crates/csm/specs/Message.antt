@@ -7,6 +7,7 @@ use Prim.Native.Char.{code}
 use lib.Dec.{eqb}
 use lib.ListN.{length}
 use Rattle.octets.specs.Text.{Text, ascii, blank, all, stands, starts, within, run-char}
+use Rattle.octets.specs.Part.{found}
 use Rattle.csm.specs.Format.{Format, bind, plain, upto, just, pre, both, maybe, as-form, such-that}
 use Rattle.csm.specs.Format.{whole}
 use Rattle.csm.specs.Fields.{Kd, has-P, field, Contents}
@@ -142,11 +143,6 @@ ksm-form = as-form ksm-record ksm-values (closed ksm-row)
 
 abbrev pub rsm-form : Format Rsm
 rsm-form = as-form rsm-record rsm-values (closed rsm-row)
-
--- it is there
-abbrev pub found : {A : Type 0} → Option A → Bool
-found none = false
-found (some a) = true
 
 -- CTP and CTR, both exactly when ERF has a P
 abbrev pub counts-with-P : Esm → Bool

@@ -21,7 +21,7 @@ use Rattle.host.proofs.khl_give_up.Met as give-up
 use Rattle.host.proofs.khl_start.Met as start
 use Rattle.host.proofs.khl_load.Met as load
 use Rattle.host.proofs.khl_remove.Met as remove
-use Rattle.demands.specs.Face.{left, over, leaves, start-leaves}
+use Rattle.demands.specs.Face.{left, over-image, leaves, start-leaves}
 use Rattle.demands.specs.Contracts.{Contracts, Code}
 use Rattle.demands.proofs.Silence.{give-up-silent}
 
@@ -39,12 +39,12 @@ wrote s p = λ i. record {
 
 changed : {lent : Text} {c : steps.Call} {answer : ℕ} {image buffer bytes : Text}
     → buffer ≡ replied (outcome-over lent c) buffer → Changes lent c answer image bytes
-    → record { answer = answer; image = image; buffer = buffer; report = bytes } ≡ over lent buffer c
+    → record { answer = answer; image = image; buffer = buffer; report = bytes } ≡ over-image lent buffer c
 changed b p = wrote (p .image-after) (record { told = p .told; buffer-after = b })
 
 changed-and-wrote : {lent : Text} {c : steps.Call} {answer : ℕ} {image before buffer bytes : Text}
     → Changes-and-writes lent c before answer image buffer bytes
-    → record { answer = answer; image = image; buffer = buffer; report = bytes } ≡ over lent before c
+    → record { answer = answer; image = image; buffer = buffer; report = bytes } ≡ over-image lent before c
 changed-and-wrote p = wrote (p .changed .image-after) (p .wrote)
 
 -- give up writes nothing

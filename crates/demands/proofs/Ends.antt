@@ -20,7 +20,7 @@ use Rattle.card.specs.Whole.{top-in}
 use Rattle.line.specs.Line.{texts}
 use Rattle.line.specs.Line as line
 use Rattle.demands.specs.Face.{Call, receive, build-ksm, build-rsi, ask, give-up, load, remove, Left, left}
-use Rattle.demands.specs.Face.{length-told, written, new-image, kept, sent}
+use Rattle.demands.specs.Face.{length-told, put-out, new-image, kept, sent}
 use Rattle.demands.specs.Terms.{Bytes, Of-bytes, refused, loading, step-of}
 use Rattle.demands.specs.Hosts.{counted, Allowed}
 use Rattle.demands.proofs.Silence.{give-up-silent, load-silent, remove-silent, ask-silent}
@@ -43,7 +43,7 @@ module _ (n : ℕ) (not-done : n ≢ 0) (image buffer : Text) where
   refused-kept (remove partner) = if-false (eqb n 0) _ _ (ne-eqb n 0 not-done)
 
   refused-sent : (c : Call) → sent c (refused n image buffer) ≡ []
-  unfolding sent texts written length-told number
+  unfolding sent texts put-out length-told number
   refused-sent (receive text) = refl
   refused-sent (build-ksm partner request) = refl
   refused-sent (build-rsi partner service) = refl

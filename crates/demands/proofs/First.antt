@@ -28,7 +28,7 @@ use Rattle.card.specs.Whole.{delivering, top-in}
 use Rattle.card.proofs.Tables.{own-is}
 use Rattle.line.specs.Line.{_∈_}
 use Rattle.demands.specs.Face.{Call, receive, build-ksm, build-rsi, ask, give-up, load, remove, Left, left}
-use Rattle.demands.specs.Face.{leaves, start-leaves, written}
+use Rattle.demands.specs.Face.{leaves, start-leaves, put-out}
 use Rattle.demands.specs.Terms.{Bytes, Of-bytes, answers-of, refused, Complains, loading, step-of, showing}
 use Rattle.demands.specs.Terms.{in-bytes}
 use Rattle.demands.specs.Demands.{Demand-1}
@@ -140,7 +140,7 @@ module _ (image text buffer : Text) (t : Table) (is : decode image ≡ some t)
       (λ z. eqb-false 4 0 refl (sym four ∙ z)))
       ∙ stored.claims .read-then-write image t is .1
 
-  written-so : written result ≡ after .outcome .reply
+  written-so : put-out result ≡ after .outcome .reply
   written-so =
       written-reply (after .outcome) (encode (after .table)) buffer
       (omega (arith, reply-short t (steps.receive (length buffer) text)))
@@ -184,7 +184,7 @@ errors image text buffer l (makes t d is e) z =
 -- ---- the bytes behind a reply
 
 rest : (image buffer : Text) (c : Call) (l : Left) → Bytes image → Of-bytes c → Way image buffer c l
-    → drop (length (written l)) (l .buffer) ≡ drop (length (written l)) buffer
+    → drop (length (put-out l)) (l .buffer) ≡ drop (length (put-out l)) buffer
 unfolding left
 rest image buffer c l octets o (refuses n m h k) = refl
 rest image buffer c l octets o (makes t d is e) =
@@ -203,7 +203,7 @@ start-refusals own out l (Beginning.refuses n m h) p = refl
 start-refusals own out l (starts q) p = absurd (p refl)
 
 start-rest : (own out : Text) (l : Left) → Beginning own out l
-    → drop (length (written l)) (l .buffer) ≡ drop (length (written l)) out
+    → drop (length (put-out l)) (l .buffer) ≡ drop (length (put-out l)) out
 start-rest own out l (Beginning.refuses n m h) = refl
 start-rest own out l (starts n) =
     rest-stays (success (encode (started (name-of own))) nothing) [] out (started-short own n)

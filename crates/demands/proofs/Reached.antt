@@ -20,7 +20,7 @@ use Rattle.calls.specs.Good.{Good-request}
 use Rattle.calls.specs.Steps.{Partners}
 use Rattle.sight.specs.Request.{request-in}
 use Rattle.line.specs.Line.{_∈_, texts, entry-for}
-use Rattle.demands.specs.Face.{receive, build-ksm, written, kept, sent}
+use Rattle.demands.specs.Face.{receive, build-ksm, put-out, kept, sent}
 use Rattle.demands.specs.Terms.{Bytes, Exchange, built, taken, confirming, Exchanged}
 use Rattle.demands.specs.Hosts.{Hosts, Allowed, at-a, at-b, Reach, begin, step-a, step-b, Loaded, Confirms}
 use Rattle.demands.proofs.Second.{stored-of, exchange}
@@ -84,32 +84,32 @@ module _ (a b name : Text) (top : Top) (h₀ : Hosts) (request buffer : Text) (k
   h₁ = at-a h₀ buffer (build-ksm b request)
 
   abbrev h₂ : Hosts
-  h₂ = at-b a h₁ buffer (receive (written (built x)))
+  h₂ = at-b a h₁ buffer (receive (put-out (built x)))
 
   abbrev h₃ : Hosts
-  h₃ = at-a h₂ buffer (receive (written (taken x)))
+  h₃ = at-a h₂ buffer (receive (put-out (taken x)))
 
   reach : Reach a b name top h₀ h₃
   unfolding Allowed sent kept
   reach =
-      step-a (step-b (step-a begin buffer (build-ksm b request) octets tt) buffer (receive (written (built x))) tt
-      (λ r p o. Memᴰ·append-left _ (in-texts (written (built x)) r p))) buffer (receive (written (taken x))) tt
-      (λ r p o. Memᴰ·append-left _ (in-texts (written (taken x)) r p))
+      step-a (step-b (step-a begin buffer (build-ksm b request) octets tt) buffer (receive (put-out (built x))) tt
+      (λ r p o. Memᴰ·append-left _ (in-texts (put-out (built x)) r p))) buffer (receive (put-out (taken x))) tt
+      (λ r p o. Memᴰ·append-left _ (in-texts (put-out (taken x)) r p))
 
   -- A has written the one key message
-  only : (w : Text) → w ∈ h₃ .from-a → w ≡ written (built x)
+  only : (w : Text) → w ∈ h₃ .from-a → w ≡ put-out (built x)
   unfolding sent kept texts
-  only w m = go (List·Memᴰ·append-cases (texts (written (confirming x))) m)
+  only w m = go (List·Memᴰ·append-cases (texts (put-out (confirming x))) m)
     where
-      rest : (w ∈ texts (written (built x))) ⊎ (w ∈ h₀ .from-a) → w ≡ written (built x)
-      rest (inl p) = of-texts (written (built x)) w p
+      rest : (w ∈ texts (put-out (built x))) ⊎ (w ∈ h₀ .from-a) → w ≡ put-out (built x)
+      rest (inl p) = of-texts (put-out (built x)) w p
       rest (inr p) = absurd (List·Memᴰ·not-nil (subst (λ (l : List Text). w ∈ l) (k .afresh .a-silent) p))
 
-      go : (w ∈ texts (written (confirming x))) ⊎ (w ∈ (texts (written (built x)) ++ h₀ .from-a))
-          → w ≡ written (built x)
+      go : (w ∈ texts (put-out (confirming x))) ⊎ (w ∈ (texts (put-out (built x)) ++ h₀ .from-a))
+          → w ≡ put-out (built x)
       go (inl p) =
           absurd (List·Memᴰ·not-nil (subst (λ (v : Text). w ∈ texts v) (exchanged .no-reply) p))
-      go (inr p) = rest (List·Memᴰ·append-cases (texts (written (built x))) p)
+      go (inr p) = rest (List·Memᴰ·append-cases (texts (put-out (built x))) p)
 
   pub confirms : Confirms a b name top h₀ (request-in request)
   unfolding kept

@@ -36,7 +36,7 @@ use Rattle.host.specs.Report.{report-bytes}
 use Rattle.sight.specs.Request.{request-in}
 use Rattle.card.specs.Whole.{largest}
 use Rattle.card.proofs.Tables.{own-is}
-use Rattle.demands.specs.Face.{Call, receive, build-ksm, ask, Left, left, leaves, start-leaves, written, kept}
+use Rattle.demands.specs.Face.{Call, receive, build-ksm, ask, Left, left, leaves, start-leaves, put-out, kept}
 use Rattle.demands.specs.Terms.{Bytes, Of-bytes, our-identity, in-table, entry-stored, entry-told, refused}
 use Rattle.demands.specs.Terms.{room-for, step-of}
 use Rattle.demands.specs.Terms.{As-the-steps, tells, Exchange, built, taken, confirming, Exchanged}
@@ -127,7 +127,7 @@ module _ (image buffer partner : Text) (octets : Bytes image) where
 
 else-started : (own out : Text) → largest ≤ length out → is-name own ≡ true
     → (t : Table) × (start-leaves own out .answer ≡ 0)
-    × (decode (written (start-leaves own out)) ≡ some t) × Starts own t
+    × (decode (put-out (start-leaves own out)) ≡ some t) × Starts own t
 unfolding left
 else-started own out r n =
     let (t, p, k) = refusals .else-started own n in
@@ -135,7 +135,7 @@ else-started own out r n =
     let q : t ≡ started (name-of own) = some-inj (sym p ∙ start-is own n) in (
       t,
       ap (λ (l : Left). l .answer) d,
-      ap (λ (l : Left). decode (written l)) d ∙ ap decode (written-started own n out) ∙ started-read own n
+      ap (λ (l : Left). decode (put-out l)) d ∙ ap decode (written-started own n out) ∙ started-read own n
           ∙ ap {B = Option Table} some (sym q),
       k,
     )
@@ -190,35 +190,35 @@ module _ (x : Exchange) (t u : Table) (e f : Entry) (a-bytes : Bytes (x .a)) (b-
       first refl
 
   -- B receives
-  taken-is : run u (steps.receive (length (x .second)) (written (built x))) ≡ step.after-taken t u q room
+  taken-is : run u (steps.receive (length (x .second)) (put-out (built x))) ≡ step.after-taken t u q room
   taken-is =
-      receive-anywhere u (length (x .second)) room second first (written (built x))
+      receive-anywhere u (length (x .second)) room second first (put-out (built x))
       ∙ ap (λ (w : Text). run u (steps.receive room w)) (first-steps .reply)
 
-  second-steps : As-the-steps (x .b) (x .second) (receive (written (built x))) (step.after-taken t u q room) (taken x)
+  second-steps : As-the-steps (x .b) (x .second) (receive (put-out (built x))) (step.after-taken t u q room) (taken x)
   second-steps =
-      subst (λ (a : After). As-the-steps (x .b) (x .second) (receive (written (built x))) a (taken x)) taken-is
-      (as-the-steps (x .b) (x .second) u b-bytes b-is (receive (written (built x)))
-      (steps.receive (length (x .second)) (written (built x))) tt second refl)
+      subst (λ (a : After). As-the-steps (x .b) (x .second) (receive (put-out (built x))) a (taken x)) taken-is
+      (as-the-steps (x .b) (x .second) u b-bytes b-is (receive (put-out (built x)))
+      (steps.receive (length (x .second)) (put-out (built x))) tt second refl)
 
   image-taken : decode (taken x .image) ≡ some (step.after-taken t u q room .table)
   unfolding kept
   image-taken = second-steps .table
 
   -- A receives
-  confirmed-is : run (step.after-built t u q room .table) (steps.receive (length (x .third)) (written (taken x)))
+  confirmed-is : run (step.after-built t u q room .table) (steps.receive (length (x .third)) (put-out (taken x)))
       ≡ step.after-confirmed t u q room
   confirmed-is =
-      receive-anywhere (step.after-built t u q room .table) (length (x .third)) room third first (written (taken x))
+      receive-anywhere (step.after-built t u q room .table) (length (x .third)) room third first (put-out (taken x))
       ∙ ap (λ (w : Text). run (step.after-built t u q room .table) (steps.receive room w)) (second-steps .reply)
 
-  third-steps : As-the-steps (built x .image) (x .third) (receive (written (taken x))) (step.after-confirmed t u q room)
+  third-steps : As-the-steps (built x .image) (x .third) (receive (put-out (taken x))) (step.after-confirmed t u q room)
       (confirming x)
   third-steps =
-      subst (λ (a : After). As-the-steps (built x .image) (x .third) (receive (written (taken x))) a (confirming x))
+      subst (λ (a : After). As-the-steps (built x .image) (x .third) (receive (put-out (taken x))) a (confirming x))
       confirmed-is
       (as-the-steps (built x .image) (x .third) (step.after-built t u q room .table) bytes-built image-built
-      (receive (written (taken x))) (steps.receive (length (x .third)) (written (taken x))) tt third refl)
+      (receive (put-out (taken x))) (steps.receive (length (x .third)) (put-out (taken x))) tt third refl)
 
   image-confirmed : decode (confirming x .image) ≡ some (step.after-confirmed t u q room .table)
   unfolding kept

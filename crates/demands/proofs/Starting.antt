@@ -16,7 +16,7 @@ use Rattle.image.proofs.Entries.{empty-held}
 use Rattle.calls.specs.Outcome.{nothing, success}
 use Rattle.calls.specs.Calls.{start}
 use Rattle.calls.proofs.Tests.{if-true}
-use Rattle.demands.specs.Face.{left, written}
+use Rattle.demands.specs.Face.{left, put-out}
 use Rattle.demands.specs.Terms.{Bytes}
 use Rattle.demands.proofs.Telling.{written-reply}
 use Rattle.demands.proofs.Keeping.{encode-octets}
@@ -45,5 +45,5 @@ module _ (own : Text) (named : is-name own ≡ true) where
       omega (arith, claims .image-sizes (encode (started (name-of own))) (started (name-of own)) started-read .1)
 
   pub written-started : (out : Text)
-      → written (left (success (encode (started (name-of own))) nothing) [] out) ≡ encode (started (name-of own))
+      → put-out (left (success (encode (started (name-of own))) nothing) [] out) ≡ encode (started (name-of own))
   written-started out = written-reply (success (encode (started (name-of own))) nothing) [] out started-short

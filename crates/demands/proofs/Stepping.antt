@@ -23,7 +23,7 @@ use Rattle.calls.specs.Words.{if_then_else_}
 use Rattle.calls.specs.Outcome.{Outcome, Turn, nothing, success, refused, done}
 use Rattle.calls.specs.Receive.{to-partner}
 use Rattle.calls.specs.Build as building
-use Rattle.calls.specs.Calls.{After, entry-of, turned, at-partner, told, perform, run}
+use Rattle.calls.specs.Calls.{After, entry-of, after-turn, at-partner, unturned, perform, run}
 use Rattle.calls.specs.Calls as steps
 use Rattle.calls.proofs.Tests.{by-case, if-false}
 use Rattle.calls.proofs.Slots.{put-found}
@@ -70,7 +70,7 @@ partner-leaves : (t : Table) (id : Text) (turn : Entry → Turn) → ((e : Entry
 unfolding at-partner
 partner-leaves t id turn same = go (entry-of id t) refl
   where
-    go : (o : Option Entry) → entry-of id t ≡ o → turned t id turn o .table ≡ t
+    go : (o : Option Entry) → entry-of id t ≡ o → after-turn t id turn o .table ≡ t
     go none q = refl
     go (some e) q =
         ap (λ (x : Entry). holding t (put (filled id) x (t .slots))) (same e)
@@ -99,7 +99,7 @@ ask-leaves : (t : Table) (id : Text) → run t (steps.about id steps.ask) .table
 unfolding run perform
 ask-leaves t id =
     by-case (λ (a : After). a .table ≡ t) _ _ _
-    (λ _. by-case (λ (a : After). a .table ≡ t) _ _ _ (λ _. refl) (λ _. partner-leaves t id told (λ e. refl))) (λ _. refl)
+    (λ _. by-case (λ (a : After). a .table ≡ t) _ _ _ (λ _. refl) (λ _. partner-leaves t id unturned (λ e. refl))) (λ _. refl)
 
 -- ---- what is kept
 

@@ -10,7 +10,7 @@ use Rattle.octets.proofs.Numbers.{number-bytes-below}
 use Rattle.calls.specs.Outcome.{Outcome, Told, nothing, refusal}
 use Rattle.outcome.specs.Report.{report, replied}
 use Rattle.host.specs.Report.{report-bytes}
-use Rattle.demands.specs.Face.{left, length-told, written}
+use Rattle.demands.specs.Face.{left, length-told, put-out}
 use Rattle.demands.specs.Terms.{refused}
 
 -- a refusal
@@ -36,14 +36,14 @@ module _ (o : Outcome) (image buffer : Text) (short : length (o .reply) < 65_536
   unfolding left length-told report report-bytes
   told-length = number-bytes-below 2 (length (o .reply)) short
 
-  pub written-reply : written (left o image buffer) ≡ o .reply
-  unfolding left written replied
+  pub written-reply : put-out (left o image buffer) ≡ o .reply
+  unfolding left put-out replied
   written-reply =
       ap (λ (n : ℕ). take n (replied o buffer)) told-length
       ∙ take-append-seam (o .reply) (drop (length (o .reply)) buffer)
 
-  pub rest-stays : drop (length (written (left o image buffer))) (left o image buffer .buffer)
-      ≡ drop (length (written (left o image buffer))) buffer
+  pub rest-stays : drop (length (put-out (left o image buffer))) (left o image buffer .buffer)
+      ≡ drop (length (put-out (left o image buffer))) buffer
   unfolding left replied
   rest-stays =
       ap (λ (w : Text). drop (length w) (replied o buffer)) written-reply

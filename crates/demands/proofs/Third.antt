@@ -13,7 +13,7 @@ use Rattle.card.specs.Whole.{top-in}
 use Rattle.card.proofs.Tables.{own-is}
 use Rattle.line.specs.Line as line
 use Rattle.line.proofs.Theorem.{claims}
-use Rattle.demands.specs.Face.{load, Left, left, leaves, start-leaves, written, kept}
+use Rattle.demands.specs.Face.{load, Left, left, leaves, start-leaves, put-out, kept}
 use Rattle.demands.specs.Terms.{Bytes, our-identity, loading}
 use Rattle.demands.specs.Hosts.{Fresh}
 use Rattle.demands.specs.Demands.{Demand-3}
@@ -26,7 +26,7 @@ use Rattle.demands.proofs.Reached.{confirms}
 
 module _ (name : Text) (top : Top) where
   begins : (own other out : Text) (l : Left) → Beginning own out l → l .answer ≡ 0
-      → Fresh name top own other (written l)
+      → Fresh name top own other (put-out l)
   unfolding left
   begins own other out l (Beginning.refuses n m h) z = absurd (h z)
   begins own other out l (starts n) z =

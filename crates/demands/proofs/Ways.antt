@@ -29,7 +29,7 @@ use Rattle.sight.specs.Request.{request-in}
 use Rattle.card.specs.Over.{outcome-over, image-over}
 use Rattle.card.specs.Whole.{body-of, ask-over, largest, start-over, delivering, top-in, load-with, load-over, remove-over}
 use Rattle.line.specs.Line.{_∈_}
-use Rattle.demands.specs.Face.{Call, receive, build-ksm, build-rsi, ask, give-up, load, remove, Left, left, over}
+use Rattle.demands.specs.Face.{Call, receive, build-ksm, build-rsi, ask, give-up, load, remove, Left, left, over-image}
 use Rattle.demands.specs.Face.{leaves, start-leaves}
 use Rattle.demands.specs.Terms.{answers-of, refused, room-for, loading, step-of, record-of, showing, in-bytes}
 use Rattle.demands.proofs.Telling.{left-refusal}
@@ -75,7 +75,7 @@ shown-so t partner lawful = go (steps.entry-of partner t) refl
 -- ---- 13
 
 module _ (image buffer : Text) (h : decode image ≡ none) where
-  over-none : (c : steps.Call) → over image buffer c ≡ refused 13 image buffer
+  over-none : (c : steps.Call) → over-image image buffer c ≡ refused 13 image buffer
   unfolding outcome-over image-over
   over-none c = rw (outcome-over, image-over, h) (left-refusal 13 image buffer)
 
@@ -99,12 +99,12 @@ module _ (image buffer : Text) (t : Table) (h : decode image ≡ some t) where
   encoded = stored.claims .read-then-write image t h .1
 
   over-some : (c : steps.Call)
-      → over image buffer c ≡ left (run t c .outcome) (encode (run t c .table)) buffer
+      → over-image image buffer c ≡ left (run t c .outcome) (encode (run t c .table)) buffer
   unfolding outcome-over image-over
   over-some c = rw (outcome-over, image-over, h)
 
   -- a refusal of the steps
-  over-refused : (c : steps.Call) (n : ℕ) → run t c ≡ refuse t n → over image buffer c ≡ refused n image buffer
+  over-refused : (c : steps.Call) (n : ℕ) → run t c ≡ refuse t n → over-image image buffer c ≡ refused n image buffer
   over-refused c n e =
       over-some c ∙ ap (λ (a : After). left (a .outcome) (encode (a .table)) buffer) e
       ∙ ap (λ (s : Text). left (refusal n) s buffer) encoded ∙ left-refusal n image buffer

@@ -28,7 +28,7 @@ use Rattle.sight.specs.Request.{request-in}
 use Rattle.card.specs.Whole.{largest, top-in}
 use Rattle.line.specs.Line.{_∈_, Rising}
 use Rattle.line.specs.Line as line
-use Rattle.demands.specs.Face.{Call, receive, ask, load, leaves, start-leaves, written, kept}
+use Rattle.demands.specs.Face.{Call, receive, ask, load, leaves, start-leaves, put-out, kept}
 use Rattle.demands.specs.Contracts.{Contracts, Code}
 use Rattle.demands.specs.Terms.{Bytes, Of-bytes, our-identity, entry-stored, entry-told, answers-of, refused}
 use Rattle.demands.specs.Terms.{Complains, room-for, step-of, As-the-steps, Exchange, Exchanged}
@@ -51,11 +51,11 @@ pub record Demand-1 : Type 0 where
       → Complains image text (leaves image buffer (receive text))
   -- a reply, or a new image, touches only the bytes of its length
   pub rest-stays : (image buffer : Text) (c : Call) → Bytes image → Of-bytes c
-      → drop (length (written (leaves image buffer c))) (leaves image buffer c .buffer)
-      ≡ drop (length (written (leaves image buffer c))) buffer
+      → drop (length (put-out (leaves image buffer c))) (leaves image buffer c .buffer)
+      ≡ drop (length (put-out (leaves image buffer c))) buffer
   pub start-rest-stays : (own out : Text)
-      → drop (length (written (start-leaves own out))) (start-leaves own out .buffer)
-      ≡ drop (length (written (start-leaves own out))) out
+      → drop (length (put-out (start-leaves own out))) (start-leaves own out .buffer)
+      ≡ drop (length (put-out (start-leaves own out))) out
 
 -- 2. Messages, enciphered keys, counts and MACs are document 01's. Each text has at most one reading and each reading
 -- one text; what one end builds the other reads back; each call changes the table exactly as the steps say.
@@ -98,7 +98,7 @@ pub record Demand-2 : Type 0 where
       → start-leaves own out ≡ refused 10 [] out
   pub else-started : (own out : Text) → largest ≤ length out → is-name own ≡ true
       → (t : Table) × (start-leaves own out .answer ≡ 0)
-      × (decode (written (start-leaves own out)) ≡ some t) × refusing.Starts own t
+      × (decode (put-out (start-leaves own out)) ≡ some t) × refusing.Starts own t
   -- ask tells the entry that the image has
   pub entry-is-told : (image buffer partner : Text) (e : Entry) → Bytes image → 256 ≤ length buffer
       → entry-stored image partner ≡ some e
@@ -129,7 +129,7 @@ pub record Demand-3 (a b name : Text) (top : Top) : Type 0 where
   pub rise : {h₀ h : Hosts} → Afresh a b name top h₀ → Reach a b name top h₀ h → Rising (h .accepted)
   -- afresh: just started, or just loaded for the other
   pub started : (own other out : Text) → start-leaves own out .answer ≡ 0
-      → Fresh name top own other (written (start-leaves own out))
+      → Fresh name top own other (put-out (start-leaves own out))
   pub just-loaded : (image buffer other key : Text) → Bytes image → Bytes key → top-in key ≡ some top
       → leaves image buffer (load other name key) .answer ≡ 0
       → Fresh name top (our-identity image) other

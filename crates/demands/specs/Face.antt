@@ -43,18 +43,18 @@ left o image buffer = record {
   report = report-bytes (report o);
 }
 
-abbrev pub over : Text → Text → steps.Call → Left
-over image buffer c = left (outcome-over image c) (image-over image c) buffer
+abbrev pub over-image : Text → Text → steps.Call → Left
+over-image image buffer c = left (outcome-over image c) (image-over image c) buffer
 
 -- each call on an image and a buffer; give up is lent no buffer, and leaves any as it was
 unfoldable pub leaves : Text → Text → Call → Left
-leaves image buffer (receive text) = over image buffer (steps.receive (length buffer) text)
+leaves image buffer (receive text) = over-image image buffer (steps.receive (length buffer) text)
 leaves image buffer (build-ksm partner request) =
-    over image buffer (steps.about partner (steps.build-ksm (length buffer) (request-in request)))
+    over-image image buffer (steps.about partner (steps.build-ksm (length buffer) (request-in request)))
 leaves image buffer (build-rsi partner service) =
     left (outcome-over image (steps.about partner (steps.build-rsi (length buffer) service))) image buffer
 leaves image buffer (ask partner) = left (ask-over image (length buffer) partner) image buffer
-leaves image buffer (give-up partner) = over image buffer (steps.about partner steps.give-up)
+leaves image buffer (give-up partner) = over-image image buffer (steps.about partner steps.give-up)
 leaves image buffer (load partner name key) = left (load-over image (length buffer) partner name key) image buffer
 leaves image buffer (remove partner) = left (remove-over image (length buffer) partner) image buffer
 
@@ -69,12 +69,12 @@ unfoldable pub length-told : Text → ℕ
 length-told report = number (take 2 (drop 2 report))
 
 -- what a call wrote: the buffer to the length told
-unfoldable pub written : Left → Text
-written l = take (length-told (l .report)) (l .buffer)
+unfoldable pub put-out : Left → Text
+put-out l = take (length-told (l .report)) (l .buffer)
 
 -- the new image, where the answer is 0
 unfoldable pub new-image : Left → Text
-new-image l = if eqb (l .answer) 0 then written l else l .image
+new-image l = if eqb (l .answer) 0 then put-out l else l .image
 
 -- the image that is kept, to be lent with the next call
 unfoldable pub kept : Call → Left → Text
@@ -88,9 +88,9 @@ kept (remove partner) l = new-image l
 
 -- the message that goes out on the line, if there is one
 unfoldable pub sent : Call → Left → List Text
-sent (receive text) l = texts (written l)
-sent (build-ksm partner request) l = texts (written l)
-sent (build-rsi partner service) l = texts (written l)
+sent (receive text) l = texts (put-out l)
+sent (build-ksm partner request) l = texts (put-out l)
+sent (build-rsi partner service) l = texts (put-out l)
 sent (ask partner) l = []
 sent (give-up partner) l = []
 sent (load partner name key) l = []

@@ -28,7 +28,7 @@ use Rattle.host.specs.Report.{report-bytes}
 use Rattle.sight.specs.Request.{request-in}
 use Rattle.card.specs.Whole.{largest, delivering, top-in}
 use Rattle.demands.specs.Face.{Call, receive, build-ksm, build-rsi, ask, give-up, load, remove, Left, leaves}
-use Rattle.demands.specs.Face.{written, kept}
+use Rattle.demands.specs.Face.{put-out, kept}
 
 -- ---- bytes
 
@@ -60,7 +60,7 @@ entry-stored image partner = in-table (decode image) partner
 
 -- the entry that a card tells when it is asked for a partner: the record that it writes
 abbrev pub entry-told : Text → Text → Text → Entry
-entry-told image buffer partner = entry-in (written (leaves image buffer (ask partner)))
+entry-told image buffer partner = entry-in (put-out (leaves image buffer (ask partner)))
 
 -- ---- answers
 
@@ -85,10 +85,10 @@ pub record Complains (image text : Text) (l : Left) : Type 0 where
   pub about : Reading
   pub reading : read text ≡ some about
   pub message : Esm
-  pub error : read (written l) ≡ some (record { rcv = about .org; org = our-identity image; body = esm message })
+  pub error : read (put-out l) ≡ some (record { rcv = about .org; org = our-identity image; body = esm message })
   pub some-letter : message .erf ≡ 0 → ⊥
   pub no-edc : message .edc ≡ none
-  pub told : l .report ≡ bytes 2 (message .erf) ++ (bytes 2 (length (written l)) ++ copies 28 0)
+  pub told : l .report ≡ bytes 2 (message .erf) ++ (bytes 2 (length (put-out l)) ++ copies 28 0)
 
 -- ---- the steps
 
@@ -142,7 +142,7 @@ pub record As-the-steps (image buffer : Text) (c : Call) (a : After) (l : Left) 
   pub answer : l .answer ≡ a .outcome .answer
   pub table : decode (kept c l) ≡ some (a .table)
   pub buffer-after : l .buffer ≡ replied (in-bytes c a) buffer
-  pub reply : written l ≡ in-bytes c a .reply
+  pub reply : put-out l ≡ in-bytes c a .reply
   pub report-after : l .report ≡ report-bytes (report (in-bytes c a))
   pub length-stays : length (l .image) ≡ length image
 
@@ -167,10 +167,10 @@ abbrev pub built : Exchange → Left
 built x = leaves (x .a) (x .first) (build-ksm (x .partner) (x .request))
 
 abbrev pub taken : Exchange → Left
-taken x = leaves (x .b) (x .second) (receive (written (built x)))
+taken x = leaves (x .b) (x .second) (receive (put-out (built x)))
 
 abbrev pub confirming : Exchange → Left
-confirming x = leaves (built x .image) (x .third) (receive (written (taken x)))
+confirming x = leaves (built x .image) (x .third) (receive (put-out (taken x)))
 
 -- both images hold the keys of the request under one count, the IV and the date arrive, and A knows it; e is A's entry
 -- for B before
@@ -178,7 +178,7 @@ pub record Exchanged (x : Exchange) (e : Entry) : Type 0 where
   pub built-answer : built x .answer ≡ 0
   pub taken-answer : taken x .answer ≡ 0
   pub confirming-answer : confirming x .answer ≡ 0
-  pub no-reply : written (confirming x) ≡ []
+  pub no-reply : put-out (confirming x) ≡ []
   pub returned : drop 4 (taken x .report)
       ≡ tells (keys (iv-asked (request-in (x .request))) (date-asked (request-in (x .request))))
   pub ours : Entry

@@ -9,9 +9,9 @@ use native.Mathlib.Omega.{arith}
 use lib.Dec.{eqb}
 use lib.ListN.{length, drop, getD}
 use Rattle.octets.specs.Text.{Text, all, within, run-char, is-run}
-use Rattle.octets.proofs.Comparing.{drop-step, drop-end, all-at}
+use Rattle.octets.proofs.Comparing.{drop-step, drop-end, all-at, both as and-true}
 use Rattle.csm.specs.Fields.{digit-value, numeral}
-use Rattle.csm.proofs.TextLaws.{and-true, within-true, true-within, or-right, all-weaker}
+use Rattle.csm.proofs.TextLaws.{within-true, true-within, or-right, all-weaker}
 use Rattle.csm.proofs.NumberLaws.{hex-digit, no-zero}
 
 -- ---- a run of digits of any base up to sixteen

@@ -10,12 +10,12 @@ use lib.ListN.{length, take, drop, length-append}
 use lib.Seq.{take-at, drop-at}
 use borrow.Author.Tests.{eqb-true, eq-eqb}
 use Rattle.octets.specs.Text.{Text, same}
-use Rattle.octets.specs.Part.{all-octets}
+use Rattle.octets.specs.Part.{all-octets, found}
 use Rattle.octets.proofs.Comparing.{both, same-equal, same-self, all-drop}
 use Rattle.partner.specs.Legal as rule
 use Rattle.partner.proofs.Naming.{filled-length}
 use Rattle.partner.specs.Table.{Table, legal, slots-legal, identities, apart, AllHeld}
-use Rattle.image.specs.Image.{encode, slots-bytes, slots-in, table-in, decode, found}
+use Rattle.image.specs.Image.{encode, slots-bytes, slots-in, table-in, decode}
 use Rattle.image.proofs.Slots.{Stored, slots-back, stored-read, slots-size, row-held}
 
 -- ---- a legal table, rule by rule

@@ -10,12 +10,12 @@ use lib.ListN.{length, drop, getD, length-take, length-drop, take-append-drop}
 use lib.Seq.{take-at, drop-drop}
 use borrow.Author.Tests.{eqb-true}
 use Rattle.octets.specs.Text.{Text}
-use Rattle.octets.specs.Part.{all-octets}
+use Rattle.octets.specs.Part.{all-octets, found}
 use Rattle.octets.proofs.Comparing.{both, drop-step}
 use Rattle.partner.specs.Legal as rule
 use Rattle.partner.proofs.Naming.{filled-length}
 use Rattle.partner.specs.Table.{Table, identities, differs, apart}
-use Rattle.image.specs.Image.{slots-bytes, slots-in, encode, decode, found}
+use Rattle.image.specs.Image.{slots-bytes, slots-in, encode, decode}
 use Rattle.image.specs.Places.{own-in}
 use Rattle.image.specs.Pass.{apart-from, front-legal}
 use Rattle.image.proofs.Entries.{is-filled-real}

@@ -18,7 +18,7 @@ use Rattle.partner.specs.Entry.{empty}
 use Rattle.partner.specs.Held.{Held}
 use Rattle.partner.specs.Legal as partner
 use Rattle.partner.specs.Record.{entry-bytes}
-use Rattle.partner.specs.Table.{Table, is-empty, find, put, place, holding, AllHeld}
+use Rattle.partner.specs.Table.{Table, is-empty, find, put, into-free-slot, holding, AllHeld}
 use Rattle.image.specs.Image.{slot-bytes, encode, slots-in, decode}
 use Rattle.image.specs.Places.{slot-of, free-slot, slot-place, splice, with-partner, without-partner}
 use Rattle.image.specs.Results.{put-slot, added-slot, removed-slot}
@@ -34,7 +34,7 @@ use Rattle.image.proofs.Buffers.{put-slot-within, added-slot-within, re
 -- ---- one slot's record
 
 -- an entry that is not empty: its kind and its body
-full-bytes : (e : Entry) → is-empty e ≡ false → slot-bytes e ≡ 2 ∷ entry-bytes e
+pub full-bytes : (e : Entry) → is-empty e ≡ false → slot-bytes e ≡ 2 ∷ entry-bytes e
 unfolding slot-bytes
 full-bytes e h = rw h
 
@@ -92,7 +92,7 @@ module _ (image : Text) (t : Table) (d : decode image ≡ some t) where
   pub slot-missed : (id : Text) → partner.is-filled id ≡ true → find id (t .slots) ≡ none → slot-of id image ≡ 64
   slot-missed id f h = slot-there image t is id (is-filled-real id f) ∙ number-missed id (t .slots) h ∙ slots-64
 
-  pub free-found : (x : Entry) (m : List Entry) → place x (t .slots) ≡ some m
+  pub free-found : (x : Entry) (m : List Entry) → into-free-slot x (t .slots) ≡ some m
       → (free-slot image < 64) × (getD (t .slots) (free-slot image) empty ≡ empty)
       × (set (t .slots) (free-slot image) x ≡ m)
   free-found x m h =
@@ -102,7 +102,7 @@ module _ (image : Text) (t : Table) (d : decode image ≡ some t) where
       subst (λ (k : ℕ). (k < 64) × (getD (t .slots) k empty ≡ empty) × (set (t .slots) k x ≡ m))
       (sym (free-there image t is)) (omega arith, empty-there (t .slots) (is .stored) _ (r .holds), r .changed)
 
-  pub free-missed : (x : Entry) → place x (t .slots) ≡ none → free-slot image ≡ 64
+  pub free-missed : (x : Entry) → into-free-slot x (t .slots) ≡ none → free-slot image ≡ 64
   free-missed x h = free-there image t is ∙ vacancy-missed x (t .slots) h ∙ slots-64
 
   -- ---- changed

@@ -14,7 +14,7 @@ use Rattle.octets.specs.Number.{copies}
 use Rattle.partner.specs.declared.Entry.{Entry}
 use Rattle.partner.specs.Entry.{empty}
 use Rattle.partner.specs.Record.{entry-bytes}
-use Rattle.partner.specs.Table.{is-empty, identities, differs, find, put, behind, place}
+use Rattle.partner.specs.Table.{is-empty, identities, differs, find, put, behind, into-free-slot}
 use Rattle.image.specs.Image.{record-length, slot-bytes, slots-bytes}
 use Rattle.image.specs.Places.{seek-slot, seek-free, past}
 use Rattle.image.specs.Pass.{apart-from}
@@ -92,9 +92,9 @@ pub record Free (x : Entry) (slots m : List Entry) (k : ℕ) : Type 0 where
   pub holds : is-empty (getD slots k empty) ≡ true
   pub changed : set slots k x ≡ m
 
-pub vacancy-found : (x : Entry) (slots m : List Entry) → place x slots ≡ some m → Free x slots m (vacancy slots)
+pub vacancy-found : (x : Entry) (slots m : List Entry) → into-free-slot x slots ≡ some m → Free x slots m (vacancy slots)
 vacancy-found x [] m h = absurd (let z : _≡_ {A = ℕ} 0 1 = cc in omega arith)
-vacancy-found x (y ∷ slots) m h = go (is-empty y) refl (place x slots) h (vacancy-found x slots)
+vacancy-found x (y ∷ slots) m h = go (is-empty y) refl (into-free-slot x slots) h (vacancy-found x slots)
   where
     n : ℕ
     n = vacancy slots
@@ -113,9 +113,9 @@ vacancy-found x (y ∷ slots) m h = go (is-empty y) refl (place x slots) h (vaca
           changed = ap (λ (l : List Entry). y ∷ l) (r .changed) ∙ i;
         }
 
-pub vacancy-missed : (x : Entry) (slots : List Entry) → place x slots ≡ none → vacancy slots ≡ length slots
+pub vacancy-missed : (x : Entry) (slots : List Entry) → into-free-slot x slots ≡ none → vacancy slots ≡ length slots
 vacancy-missed x [] h = refl
-vacancy-missed x (y ∷ slots) h = go (is-empty y) (place x slots) h (vacancy-missed x slots)
+vacancy-missed x (y ∷ slots) h = go (is-empty y) (into-free-slot x slots) h (vacancy-missed x slots)
   where
     n : ℕ
     n = vacancy slots

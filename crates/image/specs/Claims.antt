@@ -12,7 +12,7 @@ use Rattle.partner.specs.declared.Entry.{Entry}
 use Rattle.partner.specs.Entry.{empty}
 use Rattle.partner.specs.Held.{Held}
 use Rattle.partner.specs.Legal as partner
-use Rattle.partner.specs.Table.{Table, is-empty, legal, identities, differs, find, place}
+use Rattle.partner.specs.Table.{Table, is-empty, legal, identities, differs, find, into-free-slot}
 use Rattle.partner.specs.Table.{holding, started, AllHeld}
 use Rattle.image.specs.Image.{encode, decode}
 use Rattle.image.specs.Places.{slot-of, free-slot}
@@ -50,9 +50,9 @@ pub record Claims : Type 0 where
       → (decode (put-slot k e s) ≡ some (with-slot k e t)) × (length (put-slot k e s) ≡ length s)
   -- the lowest empty slot is found exactly where the table has one
   pub empty-slot-found : (s : Text) (t : Table) (e : Entry) (slots : List Entry) → decode s ≡ some t
-      → place e (t .slots) ≡ some slots
+      → into-free-slot e (t .slots) ≡ some slots
       → (free-slot s < 64) × (in-slot (free-slot s) t ≡ empty) × (set (t .slots) (free-slot s) e ≡ slots)
-  pub empty-slot-missed : (s : Text) (t : Table) (e : Entry) → decode s ≡ some t → place e (t .slots) ≡ none
+  pub empty-slot-missed : (s : Text) (t : Table) (e : Entry) → decode s ≡ some t → into-free-slot e (t .slots) ≡ none
       → free-slot s ≡ 64
   -- a partner added in an empty slot: that slot filled, every other as it was
   pub partner-added : (s : Text) (t : Table) (k : ℕ) (e : Entry) → decode s ≡ some t → k < 64

@@ -12,7 +12,7 @@ use Rattle.octets.specs.Text.{Text, ascii}
 use Rattle.octets.specs.Number.{copies}
 use Rattle.partner.specs.declared.Entry.{Entry}
 use Rattle.partner.specs.Examples.{name, entry, top, L, no-set, zeros, whole, whole-bytes, slight}
-use Rattle.partner.specs.Table.{Table, legal, find, put, place, take-out, started}
+use Rattle.partner.specs.Table.{Table, legal, find, put, into-free-slot, take-out, started}
 use Rattle.image.specs.Image.{encode, decode}
 
 -- a slot of zeros, and n of them
@@ -70,5 +70,5 @@ pub record Examples : Type 0 where
       ≡ quay ∷ vacant ∷ slight ∷ []
   pub emptied : take-out (ascii "QUAY            ") (quay ∷ vacant ∷ whole ∷ []) ≡ vacant ∷ vacant ∷ whole ∷ []
   -- load takes the lowest free slot
-  pub lowest-taken : place quay (whole ∷ vacant ∷ vacant ∷ []) ≡ some (whole ∷ quay ∷ vacant ∷ [])
-  pub none-free : place quay (whole ∷ whole ∷ []) ≡ none
+  pub lowest-taken : into-free-slot quay (whole ∷ vacant ∷ vacant ∷ []) ≡ some (whole ∷ quay ∷ vacant ∷ [])
+  pub none-free : into-free-slot quay (whole ∷ whole ∷ []) ≡ none

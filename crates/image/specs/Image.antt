@@ -1,5 +1,5 @@
 -- The stored image (document 01, "Stored image"): records of one byte of kind and a body whose length the kind fixes.
-use mathlib.Core.Bool.{Bool, true, false, cond, _&&_}
+use mathlib.Core.Bool.{cond, _&&_}
 use mathlib.Core.List.{List, [], _∷_, _++_}
 use mathlib.Core.Option.{Option, none, some}
 use Prim.Native.Nat.{ℕ, zero, suc}
@@ -56,8 +56,3 @@ table-in s = record { own = take 16 (drop 1 s); slots = slots-in 64 (drop 17 s) 
 -- the table of an image: legal, and the image is what writing it gives, byte for byte; anything else is 13
 unfoldable pub decode : Text → Option Table
 decode s = cond (legal (table-in s) && same (encode (table-in s)) s) (some (table-in s)) none
-
--- whether there is one
-abbrev pub found : {A : Type 0} → Option A → Bool
-found none = false
-found (some a) = true

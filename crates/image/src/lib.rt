@@ -4,6 +4,7 @@ ghost use mathlib.Core.Path.{_≡_};
 ghost use mathlib.Core.Option.{some};
 ghost use Prim.Native.Nat.{_+_, _*_, _≤_};
 ghost use lib.ListN.{length, drop, getD};
+ghost use Rattle.octets.specs.Part.{found};
 ghost use Rattle.octets.specs.Wrote.{Wrote};
 ghost use Rattle.partner.specs.Entry.{empty};
 ghost use Rattle.partner.specs.Table as tables;
@@ -124,7 +125,7 @@ fn record_legal(image: &[u8], at: usize, left: usize) -> bool
 
 // Whether the image is that of a legal table.
 pub fn legal(image: &[u8]) -> bool
-    ensures { λ r. ⌜ r ≡ images.found (images.decode (now (image .entry))) ⌝ }
+    ensures { λ r. ⌜ r ≡ found (images.decode (now (image .entry))) ⌝ }
 {
     if !front_legal(image) {
         return false;

@@ -22,8 +22,8 @@ use Rattle.calls.specs.Words.{if_then_else_}
 use Rattle.calls.specs.Outcome.{Turn}
 use Rattle.calls.specs.Calls.{Call, receive, about, load, After, refuse}
 use Rattle.partner.specs.Table.{holding}
-use Rattle.calls.specs.Calls.{entry-of, turned, at-partner}
-use Rattle.calls.specs.Claims.{Carries, Row}
+use Rattle.calls.specs.Calls.{entry-of, after-turn, at-partner}
+use Rattle.calls.specs.Claims.{Carries, Slotwise}
 use Rattle.calls.proofs.Slots.{row-put}
 use Rattle.calls.proofs.Tables.{own-name, Held, entry-held, held-legal, turned-after}
 use Rattle.line.specs.Line.{_∈_, texts, counted, entry-for}
@@ -67,7 +67,7 @@ module _ (name : Text) (top : Top) (us other : Text) (l : List Text) (t : Table)
 
     -- another partner's slots do not matter
     pub other-stays : (id : Text) (m : List Entry) → is-name id ≡ true → id ≢ other
-        → Row (filled id) (t .slots) m → entry-of other (holding t m) ≡ entry-of other t
+        → Slotwise (filled id) (t .slots) m → entry-of other (holding t m) ≡ entry-of other t
     other-stays id m named away r = go (is-name other) refl
       where
         go : (b : Bool) → is-name other ≡ b → entry-of other (holding t m) ≡ entry-of other t
@@ -90,7 +90,7 @@ module _ (name : Text) (top : Top) (us other : Text) (l : List Text) (t : Table)
       where
         hit : (e : Entry) → entry-of id t ≡ some e → Held t id e → entry.legal e ≡ true
             → Event us e (λ u. id ≡ other → u ∈ l) (f e) (k (f e)) → (b : Bool) → same id other ≡ b
-            → Local name top us other l t (turned t id f (some e)) (counted other c (f e .outcome .answer))
+            → Local name top us other l t (after-turn t id f (some e)) (counted other c (f e .outcome .answer))
         hit e h n lawful v true q =
             let io : id ≡ other = same-equal id other q in
             here e (f e) refl (subst (λ (w : Text). entry-of w t ≡ some e) io h) lawful (n .bare-identity ∙ io) us-named
@@ -112,7 +112,7 @@ module _ (name : Text) (top : Top) (us other : Text) (l : List Text) (t : Table)
             (no-count away (f e .outcome .answer))
 
         go : (o : Option Entry) → entry-of id t ≡ o
-            → Local name top us other l t (turned t id f o) (counted other c (turned t id f o .outcome .answer))
+            → Local name top us other l t (after-turn t id f o) (counted other c (after-turn t id f o .outcome .answer))
         go none h = idle c 3 refl
         go (some e) h =
             let n : Held t id e = entry-held t id e h in

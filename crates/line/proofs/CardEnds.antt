@@ -9,7 +9,7 @@ use native.Mathlib.Omega.{arith}
 use lib.Dec.{eqb}
 use Rattle.octets.specs.Text.{Text, same}
 use Rattle.octets.specs.Part.{bare}
-use Rattle.octets.proofs.Comparing.{same-equal, differs-same}
+use Rattle.octets.proofs.Comparing.{same-equal, differs-same, same-self as same-refl}
 use Rattle.keying.specs.declared.Top.{Top}
 use Rattle.keying.specs.declared.Top.the-variants.{Single, Pair}
 use Rattle.keying.specs.Keys.{working, seal, unseal}
@@ -18,7 +18,6 @@ use Rattle.keying.proofs.Laws.{unseal-seal}
 use Rattle.csm.specs.Fields.{Kd, named}
 use Rattle.csm.specs.Message.{Ksm, Body, rsi, ksm, rsm, esm, option, Reading, read}
 use Rattle.csm.specs.Covered.{covered-part}
-use Rattle.csm.proofs.TextLaws.{same-refl}
 use Rattle.partner.specs.declared.DataKey.{DataKey}
 use Rattle.partner.specs.declared.KeySet.{KeySet}
 use Rattle.partner.specs.declared.Entry.{Entry}

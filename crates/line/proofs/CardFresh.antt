@@ -9,15 +9,15 @@ use native.Mathlib.Omega.{arith}
 use borrow.Author.Tests.{not-false}
 use Rattle.octets.specs.Text.{Text, same, is-name}
 use Rattle.octets.specs.Part.{bare}
+use Rattle.octets.proofs.Comparing.{both as and-true}
 use Rattle.keying.specs.declared.Top.{Top}
-use Rattle.csm.proofs.TextLaws.{and-true}
 use Rattle.partner.specs.declared.Entry.{Entry}
 use Rattle.partner.specs.Entry.{empty, filled, name-of}
 use Rattle.partner.specs.Legal.{is-filled}
 use Rattle.partner.specs.Changes.{loaded}
-use Rattle.partner.specs.Table.{Table, legal, identities, differs, find, place}
+use Rattle.partner.specs.Table.{Table, legal, identities, differs, find, into-free-slot}
 use Rattle.calls.specs.Words.{if_then_else_}
-use Rattle.calls.specs.Calls.{load, After, refuse, entry-of, placed, loading, perform, run, start}
+use Rattle.calls.specs.Calls.{load, After, refuse, entry-of, after-load, loading, perform, run, start}
 use Rattle.partner.specs.Table.{holding, empties}
 use Rattle.calls.proofs.Tests.{by-case}
 use Rattle.partner.proofs.Naming.{bare-filled, filled-filled}
@@ -65,7 +65,7 @@ load-done id key-name key t =
     P y = y .outcome .answer ≡ 0 → (m : List Entry) × (y .table ≡ holding t m) × Loads id key-name key t m
 
     go : is-name id ≡ true → differs (filled id) (identities (t .slots)) ≡ true
-        → (o : Option (List Entry)) → place (loaded (name-of id) (name-of key-name) key) (t .slots) ≡ o → P (placed t o)
+        → (o : Option (List Entry)) → into-free-slot (loaded (name-of id) (name-of key-name) key) (t .slots) ≡ o → P (after-load t o)
     go named free none h z = absurd (omega arith)
     go named free (some m) h z = (m, refl, loads-one id key-name key t m named free h)
 
@@ -77,7 +77,7 @@ load-done id key-name key t =
         let h = and-true (is-name id) (differs (filled id) (t .own ∷ identities (t .slots))) (not-false _ p) in
         go (h .0)
         (and-true (not (same (t .own) (filled id))) (differs (filled id) (identities (t .slots))) (h .1) .1)
-        (place (loaded (name-of id) (name-of key-name) key) (t .slots)) refl)))
+        (into-free-slot (loaded (name-of id) (name-of key-name) key) (t .slots)) refl)))
 
 pub just-loaded : (name : Text) (top : Top) (own other : Text) (t : Table) → bare (t .own) ≡ own
     → run t (load other name top) .outcome .answer ≡ 0 → Fresh name top own other (run t (load other name top) .table)

@@ -9,22 +9,21 @@ use lib.Dec.{eqb}
 use borrow.Author.Tests.{not-false}
 use Rattle.octets.specs.Text.{Text, same, is-name}
 use Rattle.octets.specs.Part.{bare}
-use Rattle.octets.proofs.Comparing.{same-equal, same-differs, differs-same}
+use Rattle.octets.proofs.Comparing.{same-equal, same-differs, differs-same, both as and-true, same-self as same-refl}
 use Rattle.keying.specs.declared.Top.{Top}
 use Rattle.csm.specs.Message.{Reading, read}
-use Rattle.csm.proofs.TextLaws.{and-true, same-refl}
 use Rattle.csm.proofs.MessageLaws.{read-back, legal-parts}
 use Rattle.partner.specs.declared.Entry.{Entry}
 use Rattle.partner.specs.Entry.{empty, filled, name-of}
 use Rattle.partner.specs.Changes.{loaded}
-use Rattle.partner.specs.Table.{Table, legal, identities, differs, put, place}
+use Rattle.partner.specs.Table.{Table, legal, identities, differs, put, into-free-slot}
 use Rattle.calls.specs.Words.{if_then_else_}
 use Rattle.calls.specs.Receive as by-class
 use Rattle.calls.specs.Build as building
 use Rattle.calls.specs.Calls.{Act, build-ksm, build-rsi, give-up, remove, ask, Call, receive, about, load, After, refuse}
 use Rattle.partner.specs.Table.{holding}
-use Rattle.calls.specs.Calls.{entry-of, turned, at-partner, receiving, placed, loading, emptied, told, short, no-room, acting, perform, run}
-use Rattle.calls.specs.Claims.{Row}
+use Rattle.calls.specs.Calls.{entry-of, after-turn, at-partner, receiving, after-load, loading, emptied, unturned, short, no-room, acting, perform, run}
+use Rattle.calls.specs.Claims.{Slotwise}
 use Rattle.calls.proofs.Tests.{by-case}
 use Rattle.partner.proofs.Naming.{filled-filled}
 use Rattle.calls.proofs.Slots.{row-empty}
@@ -42,11 +41,11 @@ use Rattle.line.proofs.CardCall.{entry-local}
 pub record Loads (id key-name : Text) (key : Top) (t : Table) (m : List Entry) : Type 0 where
   pub absent : entry-of id t ≡ none
   pub present : entry-of id (holding t m) ≡ some (loaded (name-of id) (name-of key-name) key)
-  pub others : Row (filled id) (t .slots) m
+  pub others : Slotwise (filled id) (t .slots) m
 
 pub loads-one : (id key-name : Text) (key : Top) (t : Table) (m : List Entry) → is-name id ≡ true
     → differs (filled id) (identities (t .slots)) ≡ true
-    → place (loaded (name-of id) (name-of key-name) key) (t .slots) ≡ some m → Loads id key-name key t m
+    → into-free-slot (loaded (name-of id) (name-of key-name) key) (t .slots) ≡ some m → Loads id key-name key t m
 unfolding loaded
 loads-one id key-name key t m named free h =
     let none-there = find-none (filled id) (filled-filled id named) (t .slots) free in
@@ -117,21 +116,21 @@ module _ (name : Text) (top : Top) (us other : Text) (l : List Text) (t : Table)
         by-case P _ _ _ (λ r may. refuses 11 refl) (λ r.
         let h = and-true (is-name id) (differs (filled id) (t .own ∷ identities (t .slots))) (not-false _ p) in
         go (h .0) (and-true (not (same (t .own) (filled id))) (differs (filled id) (identities (t .slots))) (h .1) .1)
-        (place (loaded (name-of id) (name-of key-name) key) (t .slots)) refl)))
+        (into-free-slot (loaded (name-of id) (name-of key-name) key) (t .slots)) refl)))
       where
         P : After → Type 0
         P y = Asked (load id key-name key) y → Fits (load id key-name key) y
 
         go : is-name id ≡ true → differs (filled id) (identities (t .slots)) ≡ true
-            → (o : Option (List Entry)) → place (loaded (name-of id) (name-of key-name) key) (t .slots) ≡ o
-            → P (placed t o)
+            → (o : Option (List Entry)) → into-free-slot (loaded (name-of id) (name-of key-name) key) (t .slots) ≡ o
+            → P (after-load t o)
         go named free none h may = idle name top us other l t (load id key-name key) 9 refl
         go named free (some m) h may = by-same (same id other) refl
           where
             f : Loads id key-name key t m
             f = loads-one id key-name key t m named free h
 
-            by-same : (b : Bool) → same id other ≡ b → Fits (load id key-name key) (placed t (some m))
+            by-same : (b : Bool) → same id other ≡ b → Fits (load id key-name key) (after-load t (some m))
             by-same true q =
                 let io : id ≡ other = same-equal id other q in
                 let k = may refl io in
@@ -149,8 +148,8 @@ module _ (name : Text) (top : Top) (us other : Text) (l : List Text) (t : Table)
     unfolding Allowed at-partner counted
     remove-local id = go (entry-of id t) refl
       where
-        go : (o : Option Entry) → entry-of id t ≡ o → Asked (about id remove) (turned t id emptied o)
-            → Fits (about id remove) (turned t id emptied o)
+        go : (o : Option Entry) → entry-of id t ≡ o → Asked (about id remove) (after-turn t id emptied o)
+            → Fits (about id remove) (after-turn t id emptied o)
         go none h may = idle name top us other l t (about id remove) 3 refl
         go (some e) h may =
             let named : is-name id ≡ true = entry-held t id e h .name in
@@ -181,7 +180,7 @@ module _ (name : Text) (top : Top) (us other : Text) (l : List Text) (t : Table)
         (λ io x. refl) (λ away n. refl)
     act-local remove id may = remove-local id may
     act-local ask id may =
-        entry-local name top us other l t ours fine (about id ask) id told (λ x. []) (λ e lawful them. silent _ refl)
+        entry-local name top us other l t ours fine (about id ask) id unturned (λ x. []) (λ e lawful them. silent _ refl)
         (λ io x. refl) (λ away n. refl)
 
     -- ---- every call in a legal table

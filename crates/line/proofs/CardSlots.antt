@@ -7,20 +7,19 @@ use mathlib.Core.Option.{Option, none, some}
 use Prim.Native.Nat.{ℕ}
 use native.Mathlib.Omega.{arith}
 use Rattle.octets.specs.Text.{Text, same, is-name}
-use Rattle.octets.proofs.Comparing.{differs-same}
-use Rattle.csm.proofs.TextLaws.{same-refl}
+use Rattle.octets.proofs.Comparing.{differs-same, same-self as same-refl}
 use Rattle.partner.specs.declared.Entry.{Entry}
 use Rattle.partner.specs.Entry.{filled}
 use Rattle.partner.specs.Legal as partner
 use Rattle.partner.specs.Table.{Table, find}
 use Rattle.calls.specs.Calls.{entry-of}
-use Rattle.calls.specs.Claims.{Slot, kept, turned, placed, emptied, Row, end, next}
+use Rattle.calls.specs.Claims.{Slot, kept, turned, placed, emptied, Slotwise, end, next}
 use Rattle.calls.proofs.Tests.{if-true, if-false}
 use Rattle.calls.proofs.Slots.{empty-is, empty-nobody}
 use Rattle.calls.proofs.Identities.{Places, here, later}
 
 -- a partner is found as before where every other slot stays
-pub row-find : (id other : Text) → partner.is-filled other ≡ true → id ≢ other → {l m : List Entry} → Row id l m
+pub row-find : (id other : Text) → partner.is-filled other ≡ true → id ≢ other → {l m : List Entry} → Slotwise id l m
     → find other m ≡ find other l
 row-find id other named away end = refl
 row-find id other named away (next {l = l} {m = m} s r) = step s (row-find id other named away r)

@@ -9,12 +9,12 @@ use lib.Dec.{eqb}
 use borrow.Author.Tests.{eqb-true, not-false, ltb-false}
 use Rattle.octets.specs.Text.{Text, same, is-name}
 use Rattle.octets.specs.Part.{bare}
+use Rattle.octets.proofs.Comparing.{both as and-true}
 use Rattle.keying.specs.Mac.{mac-key, mac}
 use Rattle.csm.specs.Format.{value}
 use Rattle.csm.specs.Fields.{svr}
 use Rattle.csm.specs.Message.{Rsi, Ksm, Rsm, Esm, Body, rsi, ksm, rsm, esm, option, legal-body, print}
 use Rattle.csm.specs.Covered.{covered}
-use Rattle.csm.proofs.TextLaws.{and-true}
 use Rattle.partner.specs.declared.Entry.{Entry}
 use Rattle.partner.specs.Entry.{limit, waiting, broken, no-keys, keys-in}
 use Rattle.partner.specs.Legal.{legal}

@@ -10,10 +10,10 @@ use lib.ListN.{length, take, drop, length-append, length-drop}
 use lib.Seq.{take-at, drop-at}
 use borrow.Author.Tests.{le-leb, leb-true}
 use Rattle.octets.specs.Text.{Text}
+use Rattle.octets.proofs.Comparing.{both as and-true}
 use Rattle.keying.specs.Mac.{mac}
 use Rattle.csm.specs.Message.{Reading, legal, print, read}
 use Rattle.csm.specs.Covered.{covered, covered-part, mac-of}
-use Rattle.csm.proofs.TextLaws.{and-true}
 use Rattle.csm.proofs.MessageLaws.{read-there}
 use Rattle.csm.proofs.CoveredLaws.{covered-agrees}
 use Rattle.messages.specs.declared.Written.the-variants.{Length, Nothing}

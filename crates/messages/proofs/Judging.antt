@@ -7,13 +7,14 @@ use lib.Dec.{leb, eqb}
 use lib.ListN.{length}
 use borrow.Author.Tests.{leb-true}
 use Rattle.octets.specs.Text.{Text, within, is-name}
+use Rattle.octets.proofs.Comparing.{both as and-true}
 use Rattle.writer.specs.Laid.{Laid}
 use Rattle.writer.proofs.Laying.{laid-fits}
 use Rattle.messages.proofs.Lengths.{known-short}
 use Rattle.csm.specs.Format.{maybe-legal}
 use Rattle.csm.specs.Fields.{field, EDK, nonempty}
 use Rattle.csm.specs.Message.{Reading, legal, legal-body, print}
-use Rattle.csm.proofs.TextLaws.{and-true, within-true}
+use Rattle.csm.proofs.TextLaws.{within-true}
 use Rattle.csm.proofs.MessageLaws.{legal-parts}
 use Rattle.csm.proofs.LengthLaws.{known, known-legal}
 use Rattle.messages.specs.declared.Written.{Written}

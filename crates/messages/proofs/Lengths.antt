@@ -6,10 +6,10 @@ use Prim.Native.Nat.{ℕ, _+_, _≤_}
 use native.Mathlib.Omega.{arith}
 use lib.ListN.{length, length-append}
 use Rattle.octets.specs.Text.{Text, ascii, blank}
+use Rattle.octets.proofs.Comparing.{both as and-true}
 use Rattle.csm.specs.Format.{maybe-legal, maybe-print}
 use Rattle.csm.specs.Fields.{field, erf, SVR, CTP, CTR, ERF}
 use Rattle.csm.specs.Message.{Reading, head-row, head, head-of, message, fits, legal, legal-body, print, print-body}
-use Rattle.csm.proofs.TextLaws.{and-true}
 use Rattle.csm.proofs.LengthLaws.{row-length, field-length, maybe-length, message-length, known}
 use Rattle.messages.specs.declared.Counts.{Counts}
 use Rattle.messages.specs.Readings.{rsi-reading, rsm-reading, esm-reading, ctp-of, ctr-of}

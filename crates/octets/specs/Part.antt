@@ -1,6 +1,7 @@
 -- Parts of a text, and texts that are bytes.
-use mathlib.Core.Bool.{Bool, cond}
+use mathlib.Core.Bool.{Bool, true, false, cond}
 use mathlib.Core.List.{[], _∷_}
+use mathlib.Core.Option.{Option, none, some}
 use Prim.Native.Nat.{ℕ, zero, suc}
 use lib.Dec.{eqb, ltb}
 use lib.ListN.{take}
@@ -14,6 +15,11 @@ before x (y ∷ s) = cond (eqb y x) zero (suc (before x s))
 -- what stands before the first blank
 abbrev pub bare : Text → Text
 bare s = take (before blank s) s
+
+-- it is there
+abbrev pub found : {A : Type 0} → Option A → Bool
+found none = false
+found (some a) = true
 
 -- every element is a byte
 abbrev pub all-octets : Text → Bool

@@ -1,8 +1,9 @@
 -- What a call that may reply makes of one partner's entry, on every entry and in every room: the turns of crate `calls`
 -- where the entry is as a legal table has it (13) and there is room for the reply (6).
-use mathlib.Core.Bool.{Bool, not, _&&_}
+use mathlib.Core.Path.{_≡_}
+use mathlib.Core.Bool.{Bool, true, not, _&&_}
 use mathlib.Core.Option.{Option, none, some}
-use Prim.Native.Nat.{ℕ}
+use Prim.Native.Nat.{ℕ, _≤_}
 use lib.Dec.{ltb}
 use Rattle.octets.specs.Text.{Text, is-name}
 use Rattle.csm.specs.Message.{Reading, read}
@@ -17,6 +18,11 @@ use Rattle.calls.specs.Build as building
 -- our identity and the entry as a legal table has them
 unfoldable pub sound : Text → Entry → Bool
 sound own e = is-name own && legal e
+
+-- neither 13 nor 6: these, and room for a reply
+pub record Ready (own : Text) (e : Entry) (room : ℕ) : Type 0 where
+  pub lawful : sound own e ≡ true
+  pub roomy : 256 ≤ room
 
 -- 13, then 6, then the turn
 unfoldable pub guarded : Text → Entry → ℕ → Turn → Turn

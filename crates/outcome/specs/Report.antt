@@ -8,7 +8,7 @@ use lib.Dec.{ltb}
 use lib.ListN.{length, drop}
 use Rattle.octets.specs.Text.{Text}
 use Rattle.octets.specs.Number.{copies}
-use Rattle.csm.specs.Message.{found}
+use Rattle.octets.specs.Part.{found}
 use Rattle.calls.specs.declared.Date.{Date}
 use Rattle.calls.specs.Outcome.{Outcome, Turn, Told, nothing, service, keys, confirmation, failure}
 use Rattle.outcome.specs.declared.Report.{Report}

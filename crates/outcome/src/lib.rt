@@ -7,6 +7,15 @@ ghost use Rattle.outcome.specs.Acts as acts;
 use calls::Date;
 use partner::Entry;
 
+// The classes, as a report numbers them; 0 is none.
+pub const RSI: u8 = 1;
+
+pub const KSM: u8 = 2;
+
+pub const RSM: u8 = 3;
+
+pub const ESM: u8 = 4;
+
 // A call's answer, the letters of an error, ours or those of an ESM that was taken, the length of its reply; the class of
 // the message read, 1 an RSI, 2 a KSM, 3 an RSM, 4 an ESM, else 0; the service that an RSI wants, from 1 on, else 0; IV and
 // date of a KSM, each with a presence of its own, zero where there is none.
@@ -100,7 +109,7 @@ pub fn told_service(place: u64) -> Report
     ensures { λ r. ⌜ r ≡ report.report (outcomes.success [] (outcomes.service place)) ⌝ }
 {
     let mut r = told_nothing(0);
-    r.class = 1;
+    r.class = RSI;
     r.service = service_number(place);
     r
 }
@@ -110,7 +119,7 @@ pub fn told_keys(vector: bool, iv: u64, dated: bool, date: Date) -> Report
     ensures { λ r. ⌜ r ≡ report.keys-told vector iv dated date ⌝ }
 {
     let mut r = told_nothing(0);
-    r.class = 2;
+    r.class = KSM;
     r.vector = vector;
     r.iv = iv;
     r.dated = dated;
@@ -123,7 +132,7 @@ pub fn told_confirmation() -> Report
     ensures { λ r. ⌜ r ≡ report.report (outcomes.success [] outcomes.confirmation) ⌝ }
 {
     let mut r = told_nothing(0);
-    r.class = 3;
+    r.class = RSM;
     r
 }
 
@@ -132,7 +141,7 @@ pub fn told_failure(letters: u64) -> Report
     ensures { λ r. ⌜ r ≡ report.report (outcomes.success [] (outcomes.failure letters)) ⌝ }
 {
     let mut r = told_nothing(0);
-    r.class = 4;
+    r.class = ESM;
     r.letters = letters;
     r
 }

@@ -11,7 +11,7 @@ use Rattle.octets.proofs.Numbers.{number-bytes-below}
 use Rattle.partner.specs.declared.DataKey.{DataKey}
 use Rattle.partner.specs.declared.KeySet.{KeySet}
 use Rattle.partner.specs.declared.Entry.{Entry}
-use Rattle.partner.specs.Record.{part, number-in, set-in, entry-in}
+use Rattle.partner.specs.Record.{part-or-zeros, number-in, set-in, entry-in}
 use Rattle.partner.specs.Record.{place-bytes, set-bytes, top-bytes, front-bytes, count-bytes, entry-bytes}
 use Rattle.partner.specs.Held.{HeldKey, HeldSet, Held}
 
@@ -63,16 +63,16 @@ length-entry e h =
 -- ---- write then read
 
 -- what stands at a place
-field-at : (k at : ℕ) (x q y : Text) → length x ≡ at → length q ≡ k → part k at (x ++ (q ++ y)) ≡ q
+field-at : (k at : ℕ) (x q y : Text) → length x ≡ at → length q ≡ k → part-or-zeros k at (x ++ (q ++ y)) ≡ q
 field-at k at x q y h l =
     ap (λ (t : Text). take k (t ++ copies k 0)) (drop-at x (q ++ y) at h)
     ∙ ap (take k) (append-assoc q y (copies k 0)) ∙ take-at q (y ++ copies k 0) k l
 
 -- the same, in any grouping
-field-in : (k at : ℕ) (s x q y : Text) → s ≡ x ++ (q ++ y) → length x ≡ at → length q ≡ k → part k at s ≡ q
-field-in k at s x q y e h l = ap (part k at) e ∙ field-at k at x q y h l
+field-in : (k at : ℕ) (s x q y : Text) → s ≡ x ++ (q ++ y) → length x ≡ at → length q ≡ k → part-or-zeros k at s ≡ q
+field-in k at s x q y e h l = ap (part-or-zeros k at) e ∙ field-at k at x q y h l
 
-number-of : (k at n : ℕ) (s : Text) → part k at s ≡ bytes k n → n < 256 ^ k → number-in k at s ≡ n
+number-of : (k at n : ℕ) (s : Text) → part-or-zeros k at s ≡ bytes k n → n < 256 ^ k → number-in k at s ≡ n
 number-of k at n s e h = ap number e ∙ number-bytes-below k n h
 
 -- a set's five fields, behind x and before y
@@ -80,11 +80,11 @@ set-text : Text → Text → Text → Text → Text → Text → Text → Text
 set-text x a b c d e y = x ++ ((a ++ ((b ++ c) ++ (d ++ e))) ++ y)
 
 record SetFields (at : ℕ) (s a b c d e : Text) : Type 0 where
-  count : part 1 at s ≡ a
-  first-key : part 8 (at + 1) s ≡ b
-  first-name : part 16 (at + 1 + 8) s ≡ c
-  second-key : part 8 (at + 25) s ≡ d
-  second-name : part 16 (at + 25 + 8) s ≡ e
+  count : part-or-zeros 1 at s ≡ a
+  first-key : part-or-zeros 8 (at + 1) s ≡ b
+  first-name : part-or-zeros 16 (at + 1 + 8) s ≡ c
+  second-key : part-or-zeros 8 (at + 25) s ≡ d
+  second-name : part-or-zeros 16 (at + 25 + 8) s ≡ e
 
 set-fields : (at : ℕ) (x a b c d e y : Text) → length x ≡ at → length a ≡ 1 → length b ≡ 8 → length c ≡ 16
     → length d ≡ 8 → length e ≡ 16 → SetFields at (set-text x a b c d e y) a b c d e
@@ -131,14 +131,14 @@ front-text : Text → Text → Text → Text → Text → Text → Text → Text
 front-text i n f l r c d p z = ((i ++ n) ++ (f ++ (l ++ r))) ++ ((c ++ (d ++ p)) ++ z)
 
 record FrontFields (s i n f l r c d p : Text) : Type 0 where
-  identity : part 16 0 s ≡ i
-  name : part 16 16 s ≡ n
-  form : part 1 32 s ≡ f
-  left : part 8 33 s ≡ l
-  right : part 8 41 s ≡ r
-  next : part 4 49 s ≡ c
-  expected : part 4 53 s ≡ d
-  phase : part 1 57 s ≡ p
+  identity : part-or-zeros 16 0 s ≡ i
+  name : part-or-zeros 16 16 s ≡ n
+  form : part-or-zeros 1 32 s ≡ f
+  left : part-or-zeros 8 33 s ≡ l
+  right : part-or-zeros 8 41 s ≡ r
+  next : part-or-zeros 4 49 s ≡ c
+  expected : part-or-zeros 4 53 s ≡ d
+  phase : part-or-zeros 1 57 s ≡ p
 
 front-fields : (i n f l r c d p z : Text) → length i ≡ 16 → length n ≡ 16 → length f ≡ 1 → length l ≡ 8 → length r ≡ 8
     → length c ≡ 4 → length d ≡ 4 → length p ≡ 1 → FrontFields (front-text i n f l r c d p z) i n f l r c d p

@@ -16,7 +16,7 @@ use Rattle.partner.specs.declared.Name.{Name}
 use Rattle.partner.specs.declared.DataKey.{DataKey}
 use Rattle.partner.specs.declared.KeySet.{KeySet}
 use Rattle.partner.specs.declared.Entry.{Entry}
-use Rattle.partner.specs.Record.{part, number-in, name-in, place-in, set-in, entry-in}
+use Rattle.partner.specs.Record.{part-or-zeros, number-in, name-in, place-in, set-in, entry-in}
 use Rattle.partner.specs.Record.{place-bytes, set-bytes, top-bytes, front-bytes, count-bytes, entry-bytes}
 use Rattle.partner.specs.Held.{HeldName, HeldKey, HeldSet, Held}
 use Rattle.partner.proofs.Naming.{take-copies, take-filled}
@@ -32,49 +32,49 @@ drop-filled [] (suc j) k (suc n) h =
 drop-filled (x ∷ d) zero k n h = take-filled (x ∷ d) k n 0 (omega arith)
 drop-filled (x ∷ d) (suc j) k n h = drop-filled d j k n (omega arith)
 
-join : (j k at : ℕ) (s : Text) → part j at s ++ part k (at + j) s ≡ part (j + k) at s
+join : (j k at : ℕ) (s : Text) → part-or-zeros j at s ++ part-or-zeros k (at + j) s ≡ part-or-zeros (j + k) at s
 join j k at s =
     let d = drop at s in
     let l = d ++ copies (j + k) 0 in
-    let a : take j l ≡ part j at s = take-filled d j (j + k) 0 (omega arith) in
-    let b : take k (drop j l) ≡ part k (at + j) s =
+    let a : take j l ≡ part-or-zeros j at s = take-filled d j (j + k) 0 (omega arith) in
+    let b : take k (drop j l) ≡ part-or-zeros k (at + j) s =
     drop-filled d j k (j + k) (omega arith) ∙ ap (λ (t : Text). take k (t ++ copies k 0)) (drop-drop j at s) in
-    sym (take-add j k l ∙ ap (λ (t : Text). t ++ take k (drop j l)) a ∙ ap (λ (t : Text). part j at s ++ t) b)
+    sym (take-add j k l ∙ ap (λ (t : Text). t ++ take k (drop j l)) a ∙ ap (λ (t : Text). part-or-zeros j at s ++ t) b)
 
-joined : (j k at : ℕ) (s : Text) {x y : Text} → x ≡ part j at s → y ≡ part k (at + j) s → x ++ y ≡ part (j + k) at s
+joined : (j k at : ℕ) (s : Text) {x y : Text} → x ≡ part-or-zeros j at s → y ≡ part-or-zeros k (at + j) s → x ++ y ≡ part-or-zeros (j + k) at s
 joined j k at s {x} {y} p q =
-    ap (λ (t : Text). t ++ y) p ∙ ap (λ (t : Text). part j at s ++ t) q ∙ join j k at s
+    ap (λ (t : Text). t ++ y) p ∙ ap (λ (t : Text). part-or-zeros j at s ++ t) q ∙ join j k at s
 
 -- ---- read then write
 
 module _ (s : Text) (h : all-octets s ≡ true) where
-  number-back : (k at : ℕ) → bytes k (number-in k at s) ≡ part k at s
+  number-back : (k at : ℕ) → bytes k (number-in k at s) ≡ part-or-zeros k at s
   number-back k at =
       ap (λ (n : ℕ). bytes n (number-in k at s)) (sym (length-part k at s))
-      ∙ bytes-number (part k at s) (octets-part k at s h)
+      ∙ bytes-number (part-or-zeros k at s) (octets-part k at s h)
 
-  place-again : (at : ℕ) → place-bytes (place-in at s) ≡ part 24 at s
+  place-again : (at : ℕ) → place-bytes (place-in at s) ≡ part-or-zeros 24 at s
   unfolding place-bytes
   place-again at = joined 8 16 at s (number-back 8 at) refl
 
-  pub set-again : (at : ℕ) → set-bytes (set-in at s) ≡ part 49 at s
+  pub set-again : (at : ℕ) → set-bytes (set-in at s) ≡ part-or-zeros 49 at s
   unfolding set-bytes set-in
   set-again at =
       let n : at + 25 ≡ at + 1 + 24 = omega arith in
-      let q = place-again (at + 25) ∙ ap (λ (m : ℕ). part 24 m s) n in
+      let q = place-again (at + 25) ∙ ap (λ (m : ℕ). part-or-zeros 24 m s) n in
       joined 1 48 at s (number-back 1 at) (joined 24 24 (at + 1) s (place-again (at + 1)) q)
 
-  front-again : front-bytes (entry-in s) ≡ part 49 0 s
+  front-again : front-bytes (entry-in s) ≡ part-or-zeros 49 0 s
   unfolding front-bytes top-bytes entry-in
   front-again =
       joined 32 17 0 s (joined 16 16 0 s refl refl)
       (joined 1 16 32 s (number-back 1 32) (joined 8 8 33 s (number-back 8 33) (number-back 8 41)))
 
-  counts-again : count-bytes (entry-in s) ≡ part 9 49 s
+  counts-again : count-bytes (entry-in s) ≡ part-or-zeros 9 49 s
   unfolding count-bytes entry-in
   counts-again = joined 4 5 49 s (number-back 4 49) (joined 4 1 53 s (number-back 4 53) (number-back 1 57))
 
-  pub entry-again : entry-bytes (entry-in s) ≡ part 156 0 s
+  pub entry-again : entry-bytes (entry-in s) ≡ part-or-zeros 156 0 s
   unfolding entry-bytes entry-in
   entry-again =
       joined 49 107 0 s front-again (joined 9 98 49 s counts-again (joined 49 49 58 s (set-again 58) (set-again 107)))

@@ -48,15 +48,15 @@ put-entry e rest = cond (ltb (length rest) 156) (rest, 0) (entry-bytes e ++ drop
 -- ---- reading
 
 -- k bytes from a place on, zero past the end
-abbrev pub part : ℕ → ℕ → Text → Text
-part k at s = take k (drop at s ++ copies k 0)
+abbrev pub part-or-zeros : ℕ → ℕ → Text → Text
+part-or-zeros k at s = take k (drop at s ++ copies k 0)
 
 -- the number of k bytes, a name, a key place and a key set from a place on
 abbrev pub number-in : ℕ → ℕ → Text → ℕ
-number-in k at s = number (part k at s)
+number-in k at s = number (part-or-zeros k at s)
 
 abbrev pub name-in : ℕ → Text → Name
-name-in at s = record { bytes = part 16 at s }
+name-in at s = record { bytes = part-or-zeros 16 at s }
 
 abbrev pub place-in : ℕ → Text → DataKey
 place-in at s = record { key = number-in 8 at s; name = name-in (at + 8) s }

@@ -93,9 +93,9 @@ abbrev pub behind : Entry → Option (List Entry) → Option (List Entry)
 behind e none = none
 behind e (some slots) = some (e ∷ slots)
 
-abbrev pub place : Entry → List Entry → Option (List Entry)
-place x [] = none
-place x (e ∷ slots) = cond (is-empty e) (some (x ∷ slots)) (behind e (place x slots))
+abbrev pub into-free-slot : Entry → List Entry → Option (List Entry)
+into-free-slot x [] = none
+into-free-slot x (e ∷ slots) = cond (is-empty e) (some (x ∷ slots)) (behind e (into-free-slot x slots))
 
 -- a partner's slot emptied
 abbrev pub take-out : Text → List Entry → List Entry

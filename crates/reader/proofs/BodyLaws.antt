@@ -6,6 +6,7 @@ use mathlib.Core.Option.{Option, none, some}
 use lib.Dec.{eqb}
 use borrow.Author.Tests.{eqb-false, ne-eqb, not-true}
 use Rattle.octets.specs.Text.{Text, ascii, all, free, starts}
+use Rattle.octets.proofs.Comparing.{both as and-true}
 use Rattle.csm.specs.Format.{Format, bind, until, value, plain, upto, at-end, whole}
 use Rattle.csm.specs.Fields.{RSI, KSM, RSM, ESM, DSM, ERS, RFS, RTR}
 use Rattle.csm.specs.Fields as csm
@@ -13,7 +14,7 @@ use Rattle.csm.specs.Message.{Row, closed, Body, rsi, ksm, rsm, esm, option, rs
 use Rattle.csm.specs.Message.{rsi-form, ksm-form, rsm-form, esm-form, rsi-record, ksm-record, text-char, ends-blank}
 use Rattle.csm.specs.Message.{starts-any, rsi-options, ksm-options, is-option, is-rest, rest, under, or-else}
 use Rattle.csm.specs.Message.{read-known, Values, Rsi, Ksm}
-use Rattle.csm.proofs.TextLaws.{and-true, until-back}
+use Rattle.csm.proofs.TextLaws.{until-back}
 use Rattle.csm.proofs.MessageLaws.{leads, leads-none}
 use Rattle.fields.specs.Seen.{class-of}
 use Rattle.reader.specs.Stages.{any-rest, rest-seen, rest-body, seen-as, message-seen, whole-body, body}

@@ -10,10 +10,11 @@ use lib.ListN.{length, take, drop, length-append}
 use lib.Seq.{drop-drop, take-append-seam}
 use borrow.Author.Tests.{ne-eqb}
 use Rattle.octets.specs.Text.{Text, ascii, blank, all, run-char, within}
+use Rattle.octets.proofs.Comparing.{both as and-true}
 use Rattle.csm.specs.Format.{maybe-print, maybe-legal}
 use Rattle.csm.specs.Fields.{Kd, KD, IV, EDK, CTP, MAC, field, kd, named}
 use Rattle.csm.specs.Message.{Ksm, ksm, Reading, read, print-body, legal-body}
-use Rattle.csm.proofs.TextLaws.{and-true, within-true}
+use Rattle.csm.proofs.TextLaws.{within-true}
 use Rattle.csm.proofs.MessageLaws.{read-back, legal-parts}
 use Rattle.reader.specs.Seen.{head-seen, one-key, ksm-seen}
 use Rattle.reader.specs.Parts as parts

@@ -11,9 +11,9 @@ use lib.Seq.{take-all, drop-cons, length-take-le}
 use Rattle.octets.specs.Text.{Text, blank, all, free, starts}
 use Rattle.octets.specs.Part.{before}
 use Rattle.octets.proofs.Parting.{before-fits, free-before, before-at}
+use Rattle.octets.proofs.Comparing.{same-self as same-refl}
 use Rattle.csm.specs.Format.{bind, value, plain, upto, at-end}
 use Rattle.csm.specs.Message.{text-char, ends-blank, starts-any}
-use Rattle.csm.proofs.TextLaws.{same-refl}
 use Rattle.csm.proofs.FormatLaws.{upto-read, upto-none}
 use Rattle.csm.proofs.FieldLaws.{below-at}
 use Rattle.reader.specs.Stages.{any-rest, rest-seen, rest-body}

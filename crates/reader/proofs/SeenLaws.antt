@@ -10,6 +10,7 @@ use Rattle.octets.specs.Text.{Text, blank, is-run}
 use Rattle.csm.specs.Format.{Word, Format, plain, upto, pre}
 use Rattle.csm.specs.Fields.{count, named, KD, field, tag}
 use Rattle.csm.specs.Fields as csm
+use Rattle.octets.specs.Part as part
 use Rattle.csm.specs.Message as csm-message
 use Rattle.fields.specs.Seen.{piece-seen, number-seen, key-seen, kd-of}
 use Rattle.fields.specs.declared.Piece.the-variants as piece
@@ -97,7 +98,7 @@ module _ (top low high : ℕ) (tag s : Text) (at : ℕ) where
 
 pub record Key-taken (s : Text) (at : ℕ) (r : KeyAt) : Type 0 where
   pub value : Option csm.Kd
-  pub found : csm-message.found value ≡ r .there
+  pub found : part.found value ≡ r .there
   pub is : optional-key value ≡ r .key
   pub takes : Takes (field KD) s at value (r .next)
 

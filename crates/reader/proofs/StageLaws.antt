@@ -6,11 +6,12 @@ use mathlib.Core.Option.{Option, none, some}
 use Prim.Native.Nat.{ℕ}
 use lib.ListN.{length, drop}
 use Rattle.octets.specs.Text.{Text, ascii, same}
+use Rattle.octets.specs.Part.{found}
 use Rattle.csm.specs.Format.{as-form, whole}
 use Rattle.csm.specs.Fields.{SVR, EDC, ERF, CTP, CTR, MAC, IV, EDK, KD, field, Contents, svr, kd, named, has-P}
 use Rattle.csm.specs.Fields as csm
 use Rattle.csm.specs.Message as csm-message
-use Rattle.csm.specs.Message.{Row, one, opt, Values, closed, rsi, ksm, rsm, esm, found, counts-with-P}
+use Rattle.csm.specs.Message.{Row, one, opt, Values, closed, rsi, ksm, rsm, esm, counts-with-P}
 use Rattle.csm.specs.Message.{rsi-row, ksm-row, rsm-row, esm-row, rsi-record, rsi-values, ksm-record, ksm-values}
 use Rattle.csm.specs.Message.{rsm-record, rsm-values, esm-record, esm-values}
 use Rattle.fields.proofs.Within.{Next, Key-next}

@@ -4,10 +4,11 @@ use mathlib.Core.Option.{Option, none, some}
 use Prim.Native.Nat.{ℕ}
 use lib.ListN.{length}
 use Rattle.octets.specs.Text.{Text}
+use Rattle.octets.specs.Part.{found}
 use Rattle.csm.specs.Fields.{svr, kd, named}
 use Rattle.csm.specs.Fields as csm
 use Rattle.csm.specs.Message as csm-message
-use Rattle.csm.specs.Message.{Body, rsi, ksm, rsm, esm, option, Reading, found}
+use Rattle.csm.specs.Message.{Body, rsi, ksm, rsm, esm, option, Reading}
 use Rattle.fields.specs.Seen.{kd-of, class-of}
 use Rattle.reader.specs.declared.Key.{Key}
 use Rattle.reader.specs.declared.Head.{Head}

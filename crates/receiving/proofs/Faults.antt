@@ -9,9 +9,10 @@ use lib.Dec.{eqb}
 use lib.ListN.{length}
 use borrow.Author.Tests.{ne-eqb}
 use Rattle.octets.specs.Text.{Text}
+use Rattle.octets.specs.Part.{found}
 use Rattle.keying.specs.Date.{is-date}
 use Rattle.csm.specs.Fields.{nonempty}
-use Rattle.csm.specs.Message.{Ksm, found}
+use Rattle.csm.specs.Message.{Ksm}
 use Rattle.reader.specs.declared.Ksm as reader
 use Rattle.reader.specs.Parts as parts
 use Rattle.partner.specs.declared.KeySet.{KeySet}

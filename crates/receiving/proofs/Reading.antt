@@ -7,16 +7,19 @@ use Prim.Native.Nat.{ℕ, _^_, _<_}
 use native.Mathlib.Omega.{arith}
 use lib.ListN.{length}
 use lib.Seq.{take-all}
-use Rattle.octets.specs.Text.{Text, all, within, run-char, is-run, is-name}
+use Rattle.octets.specs.Text.{Text, all, within, run-char, is-run}
 use Rattle.octets.specs.Number.{copies}
+use Rattle.octets.specs.Part.{found}
 use Rattle.octets.proofs.Writing.{over-full}
+use Rattle.octets.proofs.Comparing.{both as and-true}
 use Rattle.csm.specs.Format.{maybe-legal}
 use Rattle.csm.specs.Fields.{Kd, kd, hex, named, nonempty, legal-name, field, KD, IV, EDK, CTP}
-use Rattle.csm.specs.Message.{Reading, Ksm, ksm, rsm, esm, legal-body, read, found}
+use Rattle.csm.specs.Message.{Reading, Ksm, ksm, rsm, esm, legal-body, read}
 use Rattle.csm.specs.Covered.{mac-of}
-use Rattle.csm.proofs.TextLaws.{and-true, within-true}
+use Rattle.csm.proofs.TextLaws.{within-true}
 use Rattle.csm.proofs.MessageLaws.{read-back, legal-parts}
 use Rattle.csm.proofs.CoveredLaws.{covered-agrees}
+use Rattle.csm.proofs.FieldLaws.{name-right as name-back}
 use Rattle.reader.specs.declared.Ksm as reader-ksm
 use Rattle.reader.specs.declared.Rsm as reader-rsm
 use Rattle.reader.specs.declared.Esm as reader-esm
@@ -42,10 +45,6 @@ pub read-sealed : (t : Text) (q : Reading) (m : ℕ) → read t ≡ some q → m
 read-sealed t q m e h = claims .covered t q m e h ∙ sym (covered-agrees t q m e h)
 
 -- ---- a KSM
-
--- an empty name, IV or EDK is not legal
-name-back : (o : Option Text) → legal-name o ≡ true → nonempty (named o) ≡ o
-name-back o h = nonempty-named is-name o refl (λ w s. ap legal-name (sym s) ∙ h)
 
 iv-back : (o : Option Text) → maybe-legal (field IV) o ≡ true → nonempty (named o) ≡ o
 iv-back o h = nonempty-named (is-run 90 1 17) o refl (λ w s. ap (maybe-legal (field IV)) (sym s) ∙ h)

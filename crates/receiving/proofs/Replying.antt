@@ -7,11 +7,11 @@ use lib.ListN.{length, drop}
 use borrow.Author.Tests.{le-leb}
 use Rattle.octets.specs.Text.{Text, is-name}
 use Rattle.octets.specs.Part.{bare}
+use Rattle.octets.proofs.Comparing.{both as and-true}
 use Rattle.keying.specs.Mac.{mac-key, mac}
 use Rattle.keying.proofs.Laws.{mac-lt}
 use Rattle.csm.specs.Message.{Reading, Body, legal, legal-body, print}
 use Rattle.csm.specs.Covered.{covered-part}
-use Rattle.csm.proofs.TextLaws.{and-true}
 use Rattle.csm.proofs.LengthLaws.{known, known-legal}
 use Rattle.messages.specs.declared.Counts.{Counts}
 use Rattle.messages.specs.declared.Counts.the-variants.{Without, Both}
@@ -26,8 +26,8 @@ use Rattle.partner.proofs.Keeping.{rules}
 use Rattle.calls.specs.Receive.{to-partner, esm-body, error, rsm-body, rsm-text}
 use Rattle.calls.proofs.Readings.{rsm-legal}
 use Rattle.outcome.specs.Report.{report, replied, plain}
-use Rattle.outcome.specs.Acts.{sound}
-use Rattle.receiving.specs.Stages.{Ready, counts-in}
+use Rattle.outcome.specs.Acts.{sound, Ready}
+use Rattle.receiving.specs.Stages.{counts-in}
 
 -- a legal reading is written where there is room
 pub record Written-there (r : Reading) (l : Text) : Type 0 where
@@ -52,13 +52,13 @@ pub sound-legal : (own : Text) (e : Entry) → sound own e ≡ true → partner.
 unfolding sound
 sound-legal own e h = and-true (is-name own) (partner.legal e) h .1
 
-module _ (own : Text) (e : Entry) (l : Text) (ready : Ready own e l) where
+module _ (own : Text) (e : Entry) (l : Text) (ready : Ready own e (length l)) where
   -- a legal body to the partner is written
   pub to-partner-written : (b : Body) → known b ≡ true → legal-body b ≡ true → Written-there (to-partner own e b) l
   to-partner-written b k lawful =
       let ours = sound-name own e (ready .lawful) in
       let theirs = filled-name (e .identity .bytes) (rules e (sound-legal own e (ready .lawful)) .identity-filled) in
-      written-there (to-partner own e b) l (ready .room) (known-legal _ k (rw (theirs, ours) lawful))
+      written-there (to-partner own e b) l (ready .roomy) (known-legal _ k (rw (theirs, ours) lawful))
 
   -- an ESM
   abbrev pub esm-to : ℕ → Counts → Reading

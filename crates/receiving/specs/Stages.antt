@@ -26,17 +26,11 @@ use Rattle.calls.specs.Outcome.{I, K, success, keys}
 use Rattle.calls.specs.Receive.{kds, foreign, deciphered, uneven, bad-count, faults, iv-of}
 use Rattle.outcome.specs.declared.Report.{Report}
 use Rattle.outcome.specs.Report.{report, keys-told}
-use Rattle.outcome.specs.Acts.{sound}
 use Rattle.receiving.specs.declared.keys.Opened.{Opened}
 use Rattle.receiving.specs.declared.keys.Opened.the-variants as opening
 use Rattle.receiving.specs.declared.judging.Judged.{Judged}
 use Rattle.receiving.specs.declared.judging.Value.{Value}
 use Rattle.receiving.specs.declared.judging.Value.the-variants as value
-
--- our identity and the entry are as a legal table has them, and there is room for a reply
-pub record Ready (own : Text) (e : Entry) (reply : Text) : Type 0 where
-  pub lawful : sound own e ≡ true
-  pub room : 256 ≤ length reply
 
 -- ---- I and K
 

@@ -6,6 +6,7 @@ ghost use Rattle.calls.specs.Receive as steps;
 ghost use Rattle.receiving.specs.Texts as texts;
 ghost use Rattle.receiving.specs.Stages as stages;
 use calls::Date;
+use calls::letters;
 use fields::Number;
 use keying::DataKeys;
 use messages::Counts;
@@ -140,9 +141,9 @@ pub(crate) fn judge(e: Entry, set: KeySet, text: &[u8], m: Ksm) -> Judged
     let iv = find::iv(text, m);
     let edk = find::edk(text, m);
     let value = iv_value(keys, iv);
-    let format = letter(bad_format(iv, value, edk), 4);
-    let mac = letter(bad_mac(keys, text, m.mac), 32);
-    let count = letter(bad_count(e.expected, m.ctp), 128);
+    let format = letter(bad_format(iv, value, edk), letters::F);
+    let mac = letter(bad_mac(keys, text, m.mac), letters::M);
+    let count = letter(bad_count(e.expected, m.ctp), letters::P);
     Judged {
         letters: format + (mac + count),
         report: handed(value, edk),

@@ -4,6 +4,7 @@ ghost use mathlib.Core.Bool.{not, _&&_};
 ghost use Rattle.keying.specs.Parity as parity;
 ghost use Rattle.receiving.specs.Texts as texts;
 ghost use Rattle.receiving.specs.Stages as stages;
+use calls::letters;
 use partner::DataKey;
 use partner::Entry;
 use partner::KeySet;
@@ -76,14 +77,14 @@ pub(crate) fn open_keys(e: Entry, text: &[u8], m: Ksm) -> Opened
     ensures { λ r. ⌜ r ≡ stages.opened e (texts.ksm-in m (now (text .entry))) ⌝ }
 {
     if any_foreign(e, text, m) {
-        return Opened::Error(8);
+        return Opened::Error(letters::I);
     }
     let key = keying::working(partner::top_of(e), m.ctp);
     let one = m.first;
     let kd = one.kd;
     let first = keying::unseal(key, kd.key);
     if uneven(kd.p, first) {
-        return Opened::Error(16);
+        return Opened::Error(letters::K);
     }
     if !m.two {
         return Opened::Keys { first, second: 0 };
@@ -92,7 +93,7 @@ pub(crate) fn open_keys(e: Entry, text: &[u8], m: Ksm) -> Opened
     let other = two.kd;
     let second = keying::unseal(key, other.key);
     if uneven(other.p, second) {
-        return Opened::Error(16);
+        return Opened::Error(letters::K);
     }
     Opened::Keys { first, second }
 }

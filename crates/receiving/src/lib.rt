@@ -10,6 +10,7 @@ ghost use Rattle.outcome.specs.Report as report;
 ghost use Rattle.outcome.specs.Acts as acts;
 ghost use Rattle.receiving.specs.Texts as texts;
 ghost use Rattle.receiving.specs.Stages as stages;
+use calls::letters;
 use keys::Opened;
 pub use keys::name_in_force;
 use messages::Counts;
@@ -27,7 +28,7 @@ mod replies;
 
 // A KSM: I alone, K alone, then F, M and P together; otherwise the keys and names replace the incoming ones.
 fn receive_ksm(own: &[u8], e: Entry, text: &[u8], m: Ksm, reply: &mut [u8]) -> Turned
-    requires { ⌜ stages.Ready (now own) e (now reply) ⌝ }
+    requires { ⌜ acts.Ready (now own) e (length (now reply)) ⌝ }
     requires { ⌜ texts.Ksm-read m (now text) ⌝ }
     ensures { λ r. ⌜ r ≡ report.turned (steps.receive-ksm (now (own .entry)) e (now (text .entry)) (texts.ksm-in m (now (text .entry)))) ⌝ }
     ensures { λ r. ⌜ now (reply .exit) ≡ report.replied (steps.receive-ksm (now (own .entry)) e (now (text .entry)) (texts.ksm-in m (now (text .entry))) .outcome) (now (reply .entry)) ⌝ }
@@ -59,12 +60,12 @@ fn receive_ksm(own: &[u8], e: Entry, text: &[u8], m: Ksm, reply: &mut [u8]) -> T
 fn is_waiting(phase: u8) -> bool
     ensures { λ r. ⌜ r ≡ eqb phase waiting ⌝ }
 {
-    phase == 1
+    phase == partner::WAITING
 }
 
 // An RSM: not waiting, 5; MAC differs under the outgoing keys, 4 with M, still waiting; otherwise 0, phase 2.
 fn receive_rsm(own: &[u8], e: Entry, text: &[u8], m: Rsm, reply: &mut [u8]) -> Turned
-    requires { ⌜ stages.Ready (now own) e (now reply) ⌝ }
+    requires { ⌜ acts.Ready (now own) e (length (now reply)) ⌝ }
     requires { ⌜ texts.Sealed (now text) ⌝ }
     ensures { λ r. ⌜ r ≡ report.turned (steps.receive-rsm (now (own .entry)) e (now (text .entry)) (texts.rsm-in m)) ⌝ }
     ensures { λ r. ⌜ now (reply .exit) ≡ report.replied (steps.receive-rsm (now (own .entry)) e (now (text .entry)) (texts.rsm-in m) .outcome) (now (reply .entry)) ⌝ }
@@ -76,7 +77,7 @@ fn receive_rsm(own: &[u8], e: Entry, text: &[u8], m: Rsm, reply: &mut [u8]) -> T
     if judging::bad_mac(partner::data_keys(outgoing), text, m.mac) {
         return Turned {
             entry: e,
-            report: replies::error(own, e, 32, Counts::Without, reply),
+            report: replies::error(own, e, letters::M, Counts::Without, reply),
         };
     }
     Turned {
@@ -113,7 +114,7 @@ fn receive_esm(e: Entry, m: Esm) -> Turned
 
 // By class; an RSI: 0, the service wanted is returned; an option: 4 with O; no message: 1.
 fn by_class(own: &[u8], e: Entry, text: &[u8], reply: &mut [u8]) -> Turned
-    requires { ⌜ stages.Ready (now own) e (now reply) ⌝ }
+    requires { ⌜ acts.Ready (now own) e (length (now reply)) ⌝ }
     ensures { λ r. ⌜ r ≡ report.turned (acts.receive-read (now (own .entry)) e (now (text .entry)) (csm.read (now (text .entry)))) ⌝ }
     ensures { λ r. ⌜ now (reply .exit) ≡ report.replied (acts.receive-read (now (own .entry)) e (now (text .entry)) (csm.read (now (text .entry))) .outcome) (now (reply .entry)) ⌝ }
 {
@@ -128,7 +129,7 @@ fn by_class(own: &[u8], e: Entry, text: &[u8], reply: &mut [u8]) -> Turned
         Message::Esm(m) => receive_esm(e, m),
         Message::Option(_) => Turned {
             entry: e,
-            report: replies::error(own, e, 64, Counts::Without, reply),
+            report: replies::error(own, e, letters::O, Counts::Without, reply),
         },
         Message::Nothing => outcome::refused(e, 1),
     }
@@ -142,7 +143,7 @@ pub fn receive(own: &[u8], e: Entry, text: &[u8], reply: &mut [u8]) -> Turned
     if !outcome::is_sound(own, e) {
         return outcome::refused(e, 13);
     }
-    if reply.len() < 256 {
+    if reply.len() < calls::ROOM {
         return outcome::refused(e, 6);
     }
     by_class(own, e, text, reply)

@@ -6,6 +6,7 @@ ghost use lib.ListN.{length, drop};
 ghost use Rattle.csm.specs.Message as csm;
 ghost use Rattle.calls.specs.Receive as steps;
 ghost use Rattle.outcome.specs.Report as report;
+ghost use Rattle.outcome.specs.Acts as acts;
 ghost use Rattle.receiving.specs.Stages as stages;
 use messages::Counts;
 use outcome::Report;
@@ -14,7 +15,7 @@ use partner::KeySet;
 
 // 4 with these letters: an ESM.
 pub(crate) fn error(own: &[u8], e: Entry, letters: u64, counts: Counts, reply: &mut [u8]) -> Report
-    requires { ⌜ stages.Ready (now own) e (now reply) ⌝ }
+    requires { ⌜ acts.Ready (now own) e (length (now reply)) ⌝ }
     requires { ⌜ csm.legal-body (steps.esm-body letters (stages.counts-in counts)) ≡ true ⌝ }
     ensures { λ r. ⌜ r ≡ report.report (steps.error (now (own .entry)) e letters (stages.counts-in counts) .outcome) ⌝ }
     ensures { λ r. ⌜ now (reply .exit) ≡ report.replied (steps.error (now (own .entry)) e letters (stages.counts-in counts) .outcome) (now (reply .entry)) ⌝ }
@@ -26,7 +27,7 @@ pub(crate) fn error(own: &[u8], e: Entry, letters: u64, counts: Counts, reply: &
 
 // An RSM under the keys of the KSM that it answers: its length.
 pub(crate) fn confirm(own: &[u8], e: Entry, set: KeySet, reply: &mut [u8]) -> usize
-    requires { ⌜ stages.Ready (now own) e (now reply) ⌝ }
+    requires { ⌜ acts.Ready (now own) e (length (now reply)) ⌝ }
     ensures { λ r. ⌜ r ≡ length (steps.rsm-text (now (own .entry)) e set) ⌝ }
     ensures { λ r. ⌜ now (reply .exit) ≡ steps.rsm-text (now (own .entry)) e set ++ drop (length (steps.rsm-text (now (own .entry)) e set)) (now (reply .entry)) ⌝ }
 {

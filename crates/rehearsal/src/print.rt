@@ -78,9 +78,9 @@ fn put_told(report: Report) {
     let class = report.class;
     match class {
         0 => put(b""),
-        1 => put_service(report.service),
-        2 => put_new_keys(report),
-        3 => put(b", confirmed"),
+        outcome::RSI => put_service(report.service),
+        outcome::KSM => put_new_keys(report),
+        outcome::RSM => put(b", confirmed"),
         _ => {
             put(b", failed: ");
             put_letters(report.letters);

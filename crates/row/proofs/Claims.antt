@@ -9,7 +9,7 @@ use lib.ListN.{length, take}
 use borrow.Author.Tests.{eq-eqb}
 use Rattle.octets.specs.Text.{Text, is-name}
 use Rattle.octets.specs.Part.{bare}
-use Rattle.csm.proofs.TextLaws.{and-true}
+use Rattle.octets.proofs.Comparing.{both as and-true}
 use Rattle.partner.specs.declared.Entry.{Entry}
 use Rattle.partner.proofs.Claims as entries
 use Rattle.partner.specs.Table.{Table, legal, AllHeld}
@@ -20,17 +20,17 @@ use Rattle.calls.specs.Calls.{Call, run, refuse}
 use Rattle.calls.proofs.Tests.{if-true, if-false}
 use Rattle.calls.proofs.Tables.{legal-parts, own-name}
 use Rattle.outcome.specs.Report.{report, replied}
-use Rattle.sight.specs.Table.{table, over}
-use Rattle.row.specs.Calls.{slots-or, read-row, written}
+use Rattle.sight.specs.Table.{table, over-row}
+use Rattle.row.specs.Calls.{slots-or, read-row, image-given}
 use Rattle.row.specs.Claims.{Claims}
 use Rattle.row.proofs.Writing.{all-written, image-there}
 
 -- with a name of ours
-over-named : (own : Text) (slots : List Entry) (c : Call) → is-name own ≡ true → over own slots c ≡ run (table own slots) c
-unfolding over
+over-named : (own : Text) (slots : List Entry) (c : Call) → is-name own ≡ true → over-row own slots c ≡ run (table own slots) c
+unfolding over-row
 over-named own slots c n = if-true (is-name own) (run (table own slots) c) (refuse (table own slots) 13) n
 
-agree : (image : Text) (t : Table) (c : Call) → decode image ≡ some t → over (bare (t .own)) (t .slots) c ≡ run t c
+agree : (image : Text) (t : Table) (c : Call) → decode image ≡ some t → over-row (bare (t .own)) (t .slots) c ≡ run t c
 agree image t c h =
     let l = images.claims .read-then-write image t h .0 in
     over-named (bare (t .own)) (t .slots) c (own-name t l)
@@ -38,8 +38,8 @@ agree image t c h =
     (entries.claims .filled-after-bare (t .own) (legal-parts t l .own))
 
 thirteen : (own : Text) (slots : List Entry) (c : Call) → is-name own && legal (table own slots) ≡ false
-    → over own slots c ≡ refuse (table own slots) 13
-unfolding over run
+    → over-row own slots c ≡ refuse (table own slots) 13
+unfolding over-row run
 thirteen own slots c h = go (is-name own) refl
   where
     go : (b : Bool) → is-name own ≡ b
@@ -59,10 +59,10 @@ back own slots row h k n =
 
 written-back : (own : Text) (slots row : List Entry) (out : Text) → is-name own && legal (table own slots) ≡ true
     → AllHeld slots → length row ≡ 64 → length (encode (table own slots)) ≤ length out
-    → (report (written own slots (length out)) .answer ≡ 0)
-    × (read-row (take (report (written own slots (length out)) .length) (replied (written own slots (length out)) out)) row ≡ slots)
+    → (report (image-given own slots (length out)) .answer ≡ 0)
+    × (read-row (take (report (image-given own slots (length out)) .length) (replied (image-given own slots (length out)) out)) row ≡ slots)
 written-back own slots row out h k n r =
-    let w = image-there own slots out (written own slots (length out)) (all-written own slots (length out) h r) in
+    let w = image-there own slots out (image-given own slots (length out)) (all-written own slots (length out) h r) in
     (w .0, ap (λ (t : Text). read-row t row) (w .1) ∙ back own slots row h k n)
 
 pub claims : Claims

@@ -2,7 +2,7 @@
 use mathlib.Core.Path.{_≡_, refl, sym, ap, _∙_}
 use mathlib.Core.Bool.{Bool, true, false, cond, not, true≢false}
 use mathlib.Core.List.{List}
-use Prim.Native.Nat.{ℕ, zero, suc, _+_, _<_, _≤_}
+use Prim.Native.Nat.{ℕ, _+_, _<_, _≤_}
 use native.Mathlib.Omega.{arith}
 use lib.Dec.{eqb}
 use lib.ListN.{length, drop, getD, set}
@@ -13,7 +13,8 @@ use Rattle.partner.specs.declared.Entry.{Entry}
 use Rattle.partner.specs.Entry.{empty}
 use Rattle.image.specs.Image as images
 use Rattle.image.specs.Image.{slots-in}
-use Rattle.row.specs.Stored.{filled, refilled}
+use Rattle.image.proofs.Passes.{length-row as slots-length}
+use Rattle.row.specs.Stored.{slots-to-fill, refilled}
 
 -- i of m slots are filled
 pub record Filling (image : Text) (ys : List Entry) (m : ℕ) : Type 0 where
@@ -25,8 +26,8 @@ pub record Filling (image : Text) (ys : List Entry) (m : ℕ) : Type 0 where
   pub unset : i ≡ 0 → zs ≡ ys
 
 -- 64 of 64, or none
-pub filled-64 : (a n : ℕ) → eqb (filled a n) 64 ≡ true → n ≡ 64
-unfolding filled
+pub filled-64 : (a n : ℕ) → eqb (slots-to-fill a n) 64 ≡ true → n ≡ 64
+unfolding slots-to-fill
 filled-64 a n h = go (eqb a 0) (eqb n 64) refl h
   where
     go : (b c : Bool) → eqb n 64 ≡ c → eqb (cond (not b) 0 (cond (not c) 0 64)) 64 ≡ true → n ≡ 64
@@ -34,8 +35,8 @@ filled-64 a n h = go (eqb a 0) (eqb n 64) refl h
     go true false e k = absurd (true≢false (sym k))
     go false c e k = absurd (true≢false (sym k))
 
-pub filled-0 : (a n : ℕ) → eqb (filled a n) 64 ≡ false → filled a n ≡ 0
-unfolding filled
+pub filled-0 : (a n : ℕ) → eqb (slots-to-fill a n) 64 ≡ false → slots-to-fill a n ≡ 0
+unfolding slots-to-fill
 filled-0 a n h = go (eqb a 0) (eqb n 64) h
   where
     go : (b c : Bool) → eqb (cond (not b) 0 (cond (not c) 0 64)) 64 ≡ false → _≡_ {A = ℕ} (cond (not b) 0 (cond (not c) 0 64)) 0
@@ -43,11 +44,11 @@ filled-0 a n h = go (eqb a 0) (eqb n 64) h
     go true false k = refl
     go false c k = refl
 
-pub filled-within : (a n m i : ℕ) → m ≡ filled a n → i < m → i < n
-filled-within a n m i e h = go (eqb (filled a n) 64) refl
+pub filled-within : (a n m i : ℕ) → m ≡ slots-to-fill a n → i < m → i < n
+filled-within a n m i e h = go (eqb (slots-to-fill a n) 64) refl
   where
-    go : (b : Bool) → eqb (filled a n) 64 ≡ b → i < n
-    go true k = let x = filled-64 a n k in let y = eqb-true (filled a n) 64 k in omega arith
+    go : (b : Bool) → eqb (slots-to-fill a n) 64 ≡ b → i < n
+    go true k = let x = filled-64 a n k in let y = eqb-true (slots-to-fill a n) 64 k in omega arith
     go false k = let y = filled-0 a n k in absurd (omega arith)
 
 -- one slot more
@@ -66,23 +67,18 @@ next-so image ys m s w e ee j k = go (eqb j (s .i)) refl
         let p : j ≡ s .i → ⊥ = eqb-false j (s .i) q in
         getD-set-other (s .zs) (s .i) j e empty p ∙ s .so j (omega arith)
 
-slots-length : (n : ℕ) (s : Text) → length (slots-in n s) ≡ n
-unfolding slots-in
-slots-length zero s = refl
-slots-length (suc n) s = ap suc (slots-length n (drop (images.record-length (getD s 0 0)) s))
-
 -- all are filled
-pub all-filled : (a : ℕ) (image : Text) (ys : List Entry) (m : ℕ) → m ≡ filled a (length ys) → (i : ℕ) → i ≤ m → m ≤ i
+pub all-filled : (a : ℕ) (image : Text) (ys : List Entry) (m : ℕ) → m ≡ slots-to-fill a (length ys) → (i : ℕ) → i ≤ m → m ≤ i
     → (zs : List Entry) → length zs ≡ length ys
     → ((j : ℕ) → j < i → getD zs j empty ≡ getD (slots-in 64 (drop 17 image)) j empty) → (i ≡ 0 → zs ≡ ys)
     → zs ≡ refilled a image ys
 unfolding refilled
-all-filled a image ys m em i le over zs l so un = go (eqb (filled a (length ys)) 64) refl
+all-filled a image ys m em i le over zs l so un = go (eqb (slots-to-fill a (length ys)) 64) refl
   where
-    go : (b : Bool) → eqb (filled a (length ys)) 64 ≡ b → zs ≡ cond (eqb (filled a (length ys)) 64) (slots-in 64 (drop 17 image)) ys
+    go : (b : Bool) → eqb (slots-to-fill a (length ys)) 64 ≡ b → zs ≡ cond (eqb (slots-to-fill a (length ys)) 64) (slots-in 64 (drop 17 image)) ys
     go true k =
         let x = filled-64 a (length ys) k in
-        let y = eqb-true (filled a (length ys)) 64 k in
+        let y = eqb-true (slots-to-fill a (length ys)) 64 k in
         let n = slots-length 64 (drop 17 image) in
         ext-getD empty zs (slots-in 64 (drop 17 image)) (l ∙ x ∙ sym n) (λ j h. so j (omega arith))
         ∙ sym (ap (λ (b : Bool). cond b (slots-in 64 (drop 17 image)) ys) k)

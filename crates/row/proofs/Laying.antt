@@ -19,11 +19,12 @@ use Rattle.partner.specs.declared.Entry.{Entry}
 use Rattle.partner.specs.declared.DataKey.{DataKey}
 use Rattle.partner.specs.declared.KeySet.{KeySet}
 use Rattle.partner.specs.Entry.{empty}
-use Rattle.partner.specs.Record.{place-bytes, set-bytes, top-bytes, front-bytes, count-bytes, entry-bytes}
+use Rattle.partner.specs.Record.{place-bytes, set-bytes, entry-bytes}
 use Rattle.partner.specs.Table.{is-empty}
 use Rattle.image.specs.Image.{slot-bytes, slots-bytes}
 use Rattle.image.proofs.Buffers.{left-all}
-use Rattle.row.specs.Stored.{filled, size, put-slot, behind, put-slots, laid}
+use Rattle.image.proofs.Entries.{names-size as entry-size}
+use Rattle.row.specs.Stored.{slots-to-fill, size, put-slot, behind, put-slots, laid}
 use Rattle.row.proofs.Filling.{filled-64, filled-0}
 
 -- ---- the length of a record
@@ -41,31 +42,6 @@ set-size s a b =
       length-append (place-bytes (s .first)) (place-bytes (s .second)),
       place-size (s .first) a,
       place-size (s .second) b,
-    )
-
--- an entry whose names have 16 bytes has a record of 156
-entry-size : (e : Entry) → length (e .identity .bytes) ≡ 16 → length (e .name .bytes) ≡ 16
-    → length (e .outgoing .first .name .bytes) ≡ 16 → length (e .outgoing .second .name .bytes) ≡ 16
-    → length (e .incoming .first .name .bytes) ≡ 16 → length (e .incoming .second .name .bytes) ≡ 16
-    → length (entry-bytes e) ≡ 156
-unfolding entry-bytes front-bytes count-bytes top-bytes
-entry-size e i n a b c d =
-    let x : Text = e .identity .bytes ++ e .name .bytes in
-    let t : Text = top-bytes (e .form) (e .left) (e .right) in
-    let s : Text = set-bytes (e .outgoing) ++ set-bytes (e .incoming) in
-    let lt : length t ≡ 17 = refl in
-    let lc : length (count-bytes e) ≡ 9 = refl in
-    length-append (x ++ t) (count-bytes e ++ s)
-    ∙ omega (
-      arith,
-      length-append x t,
-      length-append (e .identity .bytes) (e .name .bytes),
-      length-append (count-bytes e) s,
-      length-append (set-bytes (e .outgoing)) (set-bytes (e .incoming)),
-      set-size (e .outgoing) a b,
-      set-size (e .incoming) c d,
-      lt,
-      lc,
     )
 
 -- the same, as the fields of an argument tell it
@@ -88,10 +64,6 @@ entry-held e i n a b c d =
 pub empty-record : (e : Entry) → is-empty e ≡ true → slot-bytes e ≡ 0 ∷ []
 unfolding slot-bytes
 empty-record e h = rw h
-
-pub partner-record : (e : Entry) → is-empty e ≡ false → slot-bytes e ≡ 2 ∷ entry-bytes e
-unfolding slot-bytes
-partner-record e h = rw h
 
 -- ---- our identity's record
 pub front-is : (w : Text) → length w ≡ 16 → 1 ∷ (over w (copies 16 1) ++ []) ≡ 1 ∷ w
@@ -228,16 +200,16 @@ next-laid ys out m s w e ee r ws ew er =
     ∙ sym (ap (λ (l : List Entry). put-slots (s .t) l (s .zs)) d) ∙ s .so
 
 -- all are laid
-pub all-laid : (a : ℕ) (ys : List Entry) (out : Text) (m : ℕ) → m ≡ filled a (length ys) → (s : Laid ys out m) → m ≤ s .i
+pub all-laid : (a : ℕ) (ys : List Entry) (out : Text) (m : ℕ) → m ≡ slots-to-fill a (length ys) → (s : Laid ys out m) → m ≤ s .i
     → s .zs ≡ laid a ys out
 unfolding laid put-slots
-all-laid a ys out m em s done = go (eqb (filled a (length ys)) 64) refl
+all-laid a ys out m em s done = go (eqb (slots-to-fill a (length ys)) 64) refl
   where
-    go : (b : Bool) → eqb (filled a (length ys)) 64 ≡ b
-        → s .zs ≡ cond (eqb (filled a (length ys)) 64) (put-slots 17 ys out) out
+    go : (b : Bool) → eqb (slots-to-fill a (length ys)) 64 ≡ b
+        → s .zs ≡ cond (eqb (slots-to-fill a (length ys)) 64) (put-slots 17 ys out) out
     go true k =
         let x = filled-64 a (length ys) k in
-        let y = eqb-true (filled a (length ys)) 64 k in
+        let y = eqb-true (slots-to-fill a (length ys)) 64 k in
         let h : length ys ≤ s .i = omega arith in
         let d : drop (s .i) ys ≡ [] = drop-of-length-le ys h in
         sym (ap (λ (l : List Entry). put-slots (s .t) l (s .zs)) d) ∙ s .so

@@ -7,7 +7,7 @@ use lib.Dec.{eqb, ltb}
 use lib.ListN.{length}
 use borrow.Author.Tests.{lt-ltb, le-ltb, eq-eqb, ne-eqb}
 use Rattle.octets.specs.Text.{Text, is-name}
-use Rattle.csm.proofs.TextLaws.{and-true}
+use Rattle.octets.proofs.Comparing.{both as and-true}
 use Rattle.partner.specs.declared.Entry.{Entry}
 use Rattle.partner.specs.Entry.{filled}
 use Rattle.partner.specs.Table.{legal}
@@ -16,8 +16,8 @@ use Rattle.calls.specs.Words.{if_then_else_}
 use Rattle.calls.specs.Outcome.{refusal}
 use Rattle.calls.specs.Calls.{Call, After, receive, about, build-ksm, build-rsi, refuse, perform, run, start}
 use Rattle.calls.proofs.Tests.{if-true, if-false}
-use Rattle.sight.specs.Table.{table, row-legal, over}
-use Rattle.row.specs.Calls.{slot-of, shown-of, asked, slots-or, start-row, read-row, written}
+use Rattle.sight.specs.Table.{table, row-legal, over-row}
+use Rattle.row.specs.Calls.{slot-of, shown-of, asked, slots-or, start-row, read-row, image-given}
 use Rattle.row.specs.Stored.{start-answer, read-answer}
 use Rattle.row.specs.Orders.{Orders}
 
@@ -25,8 +25,8 @@ module _ (own : Text) (slots : List Entry) (lawful : is-name own && legal (table
   -- a call that asks for room first
   no-room : (room : ℕ) (c : Call) (after : After)
       → perform (table own slots) c ≡ (if ltb room 256 then refuse (table own slots) 6 else after)
-      → room < 256 → over own slots c .outcome ≡ refusal 6
-  unfolding over run
+      → room < 256 → over-row own slots c .outcome ≡ refusal 6
+  unfolding over-row run
   no-room room c after p h =
       let l = and-true (is-name own) (legal (table own slots)) lawful in
       ap (λ (a : After). a .outcome)
@@ -34,7 +34,7 @@ module _ (own : Text) (slots : List Entry) (lawful : is-name own && legal (table
       ∙ if-true (ltb room 256) _ _ (lt-ltb room 256 h))
 
 pub orders : Orders
-unfolding perform asked row-legal start-answer start-row read-answer read-row written start
+unfolding perform asked row-legal start-answer start-row read-answer read-row image-given start
 orders = record {
   receive-6 = λ own slots room text l h. no-room own slots l room (receive room text) _ refl h;
   build-ksm-6 = λ own slots room id q l h. no-room own slots l room (about id (build-ksm room q)) _ refl h;

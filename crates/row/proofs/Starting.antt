@@ -10,15 +10,17 @@ use borrow.Author.Tests.{leb-true}
 use lib.ListN.{length, drop, drop-of-length-le}
 use Rattle.octets.specs.Text.{Text, same, is-name, all, run-char, within}
 use Rattle.octets.specs.First.{first}
-use Rattle.csm.proofs.TextLaws.{and-true, some-inj, none-some}
+use Rattle.octets.specs.Part.{found}
+use Rattle.octets.proofs.Comparing.{both as and-true}
+use Rattle.csm.proofs.TextLaws.{some-inj, none-some}
 use Rattle.partner.specs.declared.Entry.{Entry}
 use Rattle.partner.specs.Entry.{empty, name-of}
 use Rattle.partner.specs.Table.{Table, legal, empties, started}
-use Rattle.image.specs.Image.{encode, decode, found, table-in, slots-in, slot-in, record-length}
 use Rattle.calls.specs.Words.{if_then_else_}
+use Rattle.image.specs.Image.{encode, decode, table-in, slots-in, slot-in, record-length}
 use Rattle.calls.specs.Calls as every
 use Rattle.calls.proofs.Tests.{if-true, if-false}
-use Rattle.row.specs.Stored.{start-answer, read-answer, filled, refilled}
+use Rattle.row.specs.Stored.{start-answer, read-answer, slots-to-fill, refilled}
 use Rattle.row.specs.Calls.{slots-or, start-row, read-row}
 
 -- two tests in their order
@@ -28,12 +30,12 @@ two false c n = refl
 
 -- the answers, and the row with each
 refused-row : (n : ℕ) (image : Text) (row : List Entry) → eqb n 0 ≡ false → refilled n image row ≡ row
-unfolding refilled filled
+unfolding refilled slots-to-fill
 refused-row n image row h =
     ap (λ (b : Bool). cond (eqb (cond (not b) 0 (cond (not (eqb (length row) 64)) 0 64)) 64) (slots-in 64 (drop 17 image)) row) h
 
 done-row : (image : Text) (row : List Entry) → eqb (length row) 64 ≡ true → refilled 0 image row ≡ slots-in 64 (drop 17 image)
-unfolding refilled filled
+unfolding refilled slots-to-fill
 done-row image row h =
     ap (λ (b : Bool). cond (eqb (cond (not b) 0 64) 64) (slots-in 64 (drop 17 image)) row) h
 

@@ -11,7 +11,7 @@ use borrow.Author.Tests.{le-ltb, ltb-false}
 use Rattle.octets.specs.Text.{Text, is-name}
 use Rattle.octets.specs.Wrote.{over}
 use Rattle.octets.proofs.Writing.{over-fits}
-use Rattle.csm.proofs.TextLaws.{and-true}
+use Rattle.octets.proofs.Comparing.{both as and-true}
 use Rattle.partner.specs.declared.Entry.{Entry}
 use Rattle.partner.specs.Entry as entries
 use Rattle.partner.proofs.Naming.{length-filled}
@@ -24,8 +24,8 @@ use Rattle.calls.proofs.Tables.{legal-parts}
 use Rattle.outcome.specs.declared.Report.{Report}
 use Rattle.outcome.specs.Report.{report, replied}
 use Rattle.sight.specs.Table.{table, row-legal}
-use Rattle.row.specs.Stored.{filled, front, size, put-slots, laid, fronted, write-answer, write-report}
-use Rattle.row.specs.Calls.{written}
+use Rattle.row.specs.Stored.{slots-to-fill, front, size, put-slots, laid, fronted, write-answer, write-report}
+use Rattle.row.specs.Calls.{image-given}
 use Rattle.row.proofs.Starting.{two}
 use Rattle.row.proofs.Laying.{put-behind}
 
@@ -59,18 +59,18 @@ image-laid own slots out h =
 module _ (own : Text) (slots : List Entry) (out : Text) where
   abbrev Ended : ℕ → Type 0
   Ended k =
-      (write-report k (size slots) ≡ report (written own slots (length out)))
-      × (fronted k own (laid k slots out) ≡ replied (written own slots (length out)) out)
+      (write-report k (size slots) ≡ report (image-given own slots (length out)))
+      × (fronted k own (laid k slots out) ≡ replied (image-given own slots (length out)) out)
 
   -- refused
-  refused : (k : ℕ) → eqb k 0 ≡ false → written own slots (length out) ≡ refusal k → Ended k
-  unfolding write-report fronted laid filled report replied
+  refused : (k : ℕ) → eqb k 0 ≡ false → image-given own slots (length out) ≡ refusal k → Ended k
+  unfolding write-report fronted laid slots-to-fill report replied
   refused k h e = (rw (e, h), rw (e, h))
 
   -- the whole image
   whole : eqb (length slots) 64 ≡ true → size slots ≤ length out
-      → written own slots (length out) ≡ success (encode (table own slots)) nothing → Ended 0
-  unfolding write-report fronted laid filled report replied
+      → image-given own slots (length out) ≡ success (encode (table own slots)) nothing → Ended 0
+  unfolding write-report fronted laid slots-to-fill report replied
   whole n h e = (rw (e, image-size own slots), rw (e, n) (image-laid own slots out h))
 
   abbrev fitting : Outcome
@@ -80,7 +80,7 @@ module _ (own : Text) (slots : List Entry) (out : Text) where
   -- a legal row: 6, or the image
   by-room : row-legal own slots ≡ true → (b : Bool) → ltb (length out) (size slots) ≡ b
       → Ended (cond (ltb (length out) (size slots)) 6 0)
-  unfolding written row-legal
+  unfolding image-given row-legal
   by-room l true h =
       let k : ltb (length out) (length (encode (table own slots))) ≡ true = ap (ltb (length out)) (image-size own slots) ∙ h in
       subst Ended (sym (ap (λ (b : Bool). cond b 6 0) h))
@@ -96,7 +96,7 @@ module _ (own : Text) (slots : List Entry) (out : Text) where
 
   -- any row: 13 first
   by-legal : (b : Bool) → row-legal own slots ≡ b → Ended (write-answer (row-legal own slots) (size slots) (length out))
-  unfolding write-answer written
+  unfolding write-answer image-given
   by-legal true l =
       subst Ended (sym (two (not (row-legal own slots)) (ltb (length out) (size slots)) 6
       ∙ ap (λ (b : Bool). cond (not b) 13 (cond (ltb (length out) (size slots)) 6 0)) l))
@@ -109,7 +109,7 @@ module _ (own : Text) (slots : List Entry) (out : Text) where
   pub written-is : (ok : Bool) → ok ≡ row-legal own slots → (n : ℕ) → n ≡ size slots → (k : ℕ)
       → k ≡ write-answer ok n (length out) → (zs : Text) → zs ≡ laid k slots out
       → (r : Report) → r ≡ write-report k n → (ws : Text) → ws ≡ fronted k own zs
-      → (r ≡ report (written own slots (length out))) × (ws ≡ replied (written own slots (length out)) out)
+      → (r ≡ report (image-given own slots (length out))) × (ws ≡ replied (image-given own slots (length out)) out)
   written-is ok eo n en k ek zs ez r er ws ew =
       let e : k ≡ write-answer (row-legal own slots) (size slots) (length out) =
       ek ∙ ap (λ (b : Bool). write-answer b n (length out)) eo ∙ ap (λ (m : ℕ). write-answer (row-legal own slots) m (length out)) en in
@@ -118,8 +118,8 @@ module _ (own : Text) (slots : List Entry) (out : Text) where
 
 -- with room for it, the whole image of a legal row
 pub all-written : (own : Text) (slots : List Entry) (room : ℕ) → is-name own && legal (table own slots) ≡ true
-    → length (encode (table own slots)) ≤ room → written own slots room ≡ success (encode (table own slots)) nothing
-unfolding written row-legal
+    → length (encode (table own slots)) ≤ room → image-given own slots room ≡ success (encode (table own slots)) nothing
+unfolding image-given row-legal
 all-written own slots room l h =
     if-false (not (row-legal own slots)) _ _ (ap not l)
     ∙ if-false (ltb room (length (encode (table own slots)))) _ _ (le-ltb room (length (encode (table own slots))) h)

@@ -16,7 +16,7 @@ use Rattle.calls.specs.Words.{if_then_else_}
 use Rattle.calls.specs.Outcome.{Outcome, nothing, refusal, success}
 use Rattle.calls.specs.Calls as every
 use Rattle.sight.specs.declared.Found.{Found}
-use Rattle.sight.specs.Table.{table, row-legal, over}
+use Rattle.sight.specs.Table.{table, row-legal, over-row}
 use Rattle.outcome.specs.declared.Report.{Report}
 use Rattle.outcome.specs.Report.{report, replied}
 use Rattle.row.specs.Stored.{start-answer, read-answer}
@@ -60,8 +60,8 @@ read-row image row = if eqb (length row) 64 then slots-or row (decode image) els
 -- ---- image writing
 
 -- the table's image; 13 where our identity is no name or the table is not legal, 6 where the image does not fit
-unfoldable pub written : Text → List Entry → ℕ → Outcome
-written own slots room =
+unfoldable pub image-given : Text → List Entry → ℕ → Outcome
+image-given own slots room =
     if not (row-legal own slots) then refusal 13
     else (if ltb room (length (encode (table own slots))) then refusal 6 else success (encode (table own slots)) nothing)
 
@@ -70,9 +70,9 @@ written own slots room =
 -- a call
 pub record Called (own : Text) (slots : List Entry) (c : every.Call) (buffer : Text) (r : Report) (later : List Entry) (after : Text)
     : Type 0 where
-  pub given : r ≡ report (over own slots c .outcome)
-  pub row : later ≡ over own slots c .table .slots
-  pub reply : after ≡ replied (over own slots c .outcome) buffer
+  pub given : r ≡ report (over-row own slots c .outcome)
+  pub row : later ≡ over-row own slots c .table .slots
+  pub reply : after ≡ replied (over-row own slots c .outcome) buffer
 
 -- start
 pub record Started (own : Text) (slots : List Entry) (n : ℕ) (later : List Entry) : Type 0 where
@@ -86,5 +86,5 @@ pub record Image-read (image : Text) (slots : List Entry) (n : ℕ) (later : Lis
 
 -- image writing
 pub record Image-written (own : Text) (slots : List Entry) (buffer : Text) (r : Report) (after : Text) : Type 0 where
-  pub given : r ≡ report (written own slots (length buffer))
-  pub out : after ≡ replied (written own slots (length buffer)) buffer
+  pub given : r ≡ report (image-given own slots (length buffer))
+  pub out : after ≡ replied (image-given own slots (length buffer)) buffer

@@ -14,19 +14,19 @@ use Rattle.image.specs.Image.{encode, decode}
 use Rattle.calls.specs.declared.Request.{Request}
 use Rattle.calls.specs.Outcome.{nothing, refusal, success}
 use Rattle.calls.specs.Calls.{receive, about, build-ksm, build-rsi, entry-of}
-use Rattle.sight.specs.Table.{table, over}
-use Rattle.row.specs.Calls.{slot-of, asked, start-row, read-row, written}
+use Rattle.sight.specs.Table.{table, over-row}
+use Rattle.row.specs.Calls.{slot-of, asked, start-row, read-row, image-given}
 use Rattle.row.specs.Stored.{start-answer, read-answer}
 
 pub record Orders : Type 0 where
   -- receive and both builds: 13 (`else-13` of the claims), then 6, reply room under 256
   pub receive-6 : (own : Text) (slots : List Entry) (room : ℕ) (text : Text)
-      → is-name own && legal (table own slots) ≡ true → room < 256 → over own slots (receive room text) .outcome ≡ refusal 6
+      → is-name own && legal (table own slots) ≡ true → room < 256 → over-row own slots (receive room text) .outcome ≡ refusal 6
   pub build-ksm-6 : (own : Text) (slots : List Entry) (room : ℕ) (id : Text) (q : Request)
-      → is-name own && legal (table own slots) ≡ true → room < 256 → over own slots (about id (build-ksm room q)) .outcome ≡ refusal 6
+      → is-name own && legal (table own slots) ≡ true → room < 256 → over-row own slots (about id (build-ksm room q)) .outcome ≡ refusal 6
   pub build-rsi-6 : (own : Text) (slots : List Entry) (room : ℕ) (id contents : Text)
       → is-name own && legal (table own slots) ≡ true → room < 256
-      → over own slots (about id (build-rsi room contents)) .outcome ≡ refusal 6
+      → over-row own slots (about id (build-rsi room contents)) .outcome ≡ refusal 6
   -- ask: 13, 3, else the entry
   pub ask-13 : (own : Text) (slots : List Entry) (id : Text) → is-name own && legal (table own slots) ≡ false
       → asked own slots id ≡ record { answer = 13; slot = 64; entry = empty }
@@ -46,8 +46,8 @@ pub record Orders : Type 0 where
       → (read-answer image 64 ≡ 0) × (read-row image row ≡ t .slots)
   -- image writing: 13, 6 where the image does not fit, else the image
   pub write-13 : (own : Text) (slots : List Entry) (room : ℕ) → is-name own && legal (table own slots) ≡ false
-      → written own slots room ≡ refusal 13
+      → image-given own slots room ≡ refusal 13
   pub write-6 : (own : Text) (slots : List Entry) (room : ℕ) → is-name own && legal (table own slots) ≡ true
-      → room < length (encode (table own slots)) → written own slots room ≡ refusal 6
+      → room < length (encode (table own slots)) → image-given own slots room ≡ refusal 6
   pub write-0 : (own : Text) (slots : List Entry) (room : ℕ) → is-name own && legal (table own slots) ≡ true
-      → length (encode (table own slots)) ≤ room → written own slots room ≡ success (encode (table own slots)) nothing
+      → length (encode (table own slots)) ≤ room → image-given own slots room ≡ success (encode (table own slots)) nothing

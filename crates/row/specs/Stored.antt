@@ -8,12 +8,13 @@ use lib.ListN.{length, take, drop}
 use Rattle.octets.specs.Text.{Text, is-name}
 use Rattle.octets.specs.Wrote.{over}
 use Rattle.octets.specs.First.{first}
+use Rattle.octets.specs.Part.{found}
 use Rattle.partner.specs.declared.Entry.{Entry}
 use Rattle.partner.specs.Entry as entries
 use Rattle.calls.specs.Outcome.{refusal}
 use Rattle.outcome.specs.declared.Report.{Report}
 use Rattle.outcome.specs.Report.{report, plain}
-use Rattle.image.specs.Image.{decode, found, slots-in, slot-bytes, slots-bytes, ours}
+use Rattle.image.specs.Image.{decode, slots-in, slot-bytes, slots-bytes, ours}
 
 -- start: 13, 10
 unfoldable pub start-answer : Text → ℕ → ℕ
@@ -24,13 +25,13 @@ unfoldable pub read-answer : Text → ℕ → ℕ
 read-answer image slots = first ((not (eqb slots 64), 13) ∷ (not (found (decode image)), 13) ∷ [])
 
 -- how many slots are filled
-unfoldable pub filled : ℕ → ℕ → ℕ
-filled answer slots = cond (not (eqb answer 0)) 0 (cond (not (eqb slots 64)) 0 64)
+unfoldable pub slots-to-fill : ℕ → ℕ → ℕ
+slots-to-fill answer slots = cond (not (eqb answer 0)) 0 (cond (not (eqb slots 64)) 0 64)
 
 -- a row filled from an image with the answer 0, as it was with any other
 unfoldable pub refilled : ℕ → Text → List Entry → List Entry
 refilled answer image row =
-    cond (eqb (filled answer (length row)) 64) (slots-in 64 (drop 17 image)) row
+    cond (eqb (slots-to-fill answer (length row)) 64) (slots-in 64 (drop 17 image)) row
 
 -- ---- image writing
 
@@ -62,7 +63,7 @@ put-slots at (e ∷ slots) out = put-slots (behind at e (length out)) slots (put
 
 -- laid behind the front with the answer 0, the buffer as it was with any other
 unfoldable pub laid : ℕ → List Entry → Text → Text
-laid answer slots out = cond (eqb (filled answer (length slots)) 64) (put-slots 17 slots out) out
+laid answer slots out = cond (eqb (slots-to-fill answer (length slots)) 64) (put-slots 17 slots out) out
 
 -- likewise the front
 unfoldable pub fronted : ℕ → Text → Text → Text

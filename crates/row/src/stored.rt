@@ -26,7 +26,7 @@ pub fn read_answer(image: &[u8], slots: usize) -> u32
 
 // How many slots are to be filled: 64 with the answer 0, else none.
 pub fn filled(answer: u32, slots: usize) -> usize
-    ensures { λ r. ⌜ r ≡ stored.filled answer slots ⌝ }
+    ensures { λ r. ⌜ r ≡ stored.slots-to-fill answer slots ⌝ }
 {
     if answer != 0 {
         return 0;

@@ -7,7 +7,7 @@ use Rattle.octets.specs.Text.{Text, same, is-name}
 use Rattle.csm.proofs.TextLaws.{none-some}
 use Rattle.partner.specs.declared.Entry.{Entry}
 use Rattle.partner.specs.Entry.{filled}
-use Rattle.partner.specs.Table.{is-empty, find, put, place, behind}
+use Rattle.partner.specs.Table.{is-empty, find, put, into-free-slot, behind}
 use Rattle.sight.specs.declared.aims.Aim.{Aim}
 use Rattle.sight.specs.Sight.{is-theirs, is-sought}
 use Rattle.sight.proofs.Rows.{first, putting, index}
@@ -64,20 +64,20 @@ module _ (a : Aim) (id : Text) (v : a .vacant ≡ false) (t : a .theirs ≡ is-n
 
 -- ---- the lowest free slot
 
-pub none-free : (x : Entry) (l : List Entry) → first is-empty l ≡ none → place x l ≡ none
+pub none-free : (x : Entry) (l : List Entry) → first is-empty l ≡ none → into-free-slot x l ≡ none
 none-free x [] h = refl
 none-free x (e ∷ l) h = go (is-empty e) h (none-free x l)
   where
-    go : (b : Bool) → cond b (some e) (first is-empty l) ≡ none → (first is-empty l ≡ none → place x l ≡ none)
-        → cond b (some (x ∷ l)) (behind e (place x l)) ≡ none
+    go : (b : Bool) → cond b (some e) (first is-empty l) ≡ none → (first is-empty l ≡ none → into-free-slot x l ≡ none)
+        → cond b (some (x ∷ l)) (behind e (into-free-slot x l)) ≡ none
     go true h ih = absurd (none-some e (sym h))
     go false h ih = ap (behind e) (ih h)
 
-pub one-free : (x : Entry) (l : List Entry) (f : Entry) → first is-empty l ≡ some f → place x l ≡ some (putting is-empty x l)
+pub one-free : (x : Entry) (l : List Entry) (f : Entry) → first is-empty l ≡ some f → into-free-slot x l ≡ some (putting is-empty x l)
 one-free x [] f h = absurd (none-some f h)
 one-free x (e ∷ l) f h = go (is-empty e) h (one-free x l f)
   where
-    go : (b : Bool) → cond b (some e) (first is-empty l) ≡ some f → (first is-empty l ≡ some f → place x l ≡ some (putting is-empty x l))
-        → cond b (some (x ∷ l)) (behind e (place x l)) ≡ some (cond b (x ∷ l) (e ∷ putting is-empty x l))
+    go : (b : Bool) → cond b (some e) (first is-empty l) ≡ some f → (first is-empty l ≡ some f → into-free-slot x l ≡ some (putting is-empty x l))
+        → cond b (some (x ∷ l)) (behind e (into-free-slot x l)) ≡ some (cond b (x ∷ l) (e ∷ putting is-empty x l))
     go true h ih = refl
     go false h ih = ap (behind e) (ih h)

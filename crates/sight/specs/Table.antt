@@ -17,6 +17,6 @@ unfoldable pub row-legal : Text → List Entry → Bool
 row-legal own slots = is-name own && legal (table own slots)
 
 -- a call over a row; 13 where our identity is no name
-unfoldable pub over : Text → List Entry → every.Call → every.After
-over own slots c =
+unfoldable pub over-row : Text → List Entry → every.Call → every.After
+over-row own slots c =
     if is-name own then every.run (table own slots) c else every.refuse (table own slots) 13

@@ -107,9 +107,9 @@ pub fn aim_of(own: &[u8], who: &[u8], act: Act, text: &[u8]) -> Aim
     ensures { λ r. ⌜ r ≡ aims.aim-of act (now (own .entry)) (now (who .entry)) (now (text .entry)) ⌝ }
 {
     match act {
-        Act::Receive => with_room(of_text(own, text), 256),
-        Act::BuildKsm => with_room(at_partner(own, who), 256),
-        Act::BuildRsi => with_room(at_partner(own, who), 256),
+        Act::Receive => with_room(of_text(own, text), calls::ROOM),
+        Act::BuildKsm => with_room(at_partner(own, who), calls::ROOM),
+        Act::BuildRsi => with_room(at_partner(own, who), calls::ROOM),
         Act::GiveUp => at_partner(own, who),
         Act::Remove => at_partner(own, who),
         Act::Ask => at_partner(own, who),

@@ -80,7 +80,7 @@ module _ (own : Text) (slots : List Entry) where
         missed : first (is-sought a) slots ≡ none → Ended (refuse t 3)
         missed h = refuses 3 (looks-3 a s n (z .missed l h .0) ∙ looks) (λ z. absurd (omega arith))
 
-        hit : (e : Entry) → is-name id ≡ true → find (filled id) slots ≡ some e → Ended (every.turned t id f (some e))
+        hit : (e : Entry) → is-name id ≡ true → find (filled id) slots ≡ some e → Ended (every.after-turn t id f (some e))
         hit e m h =
             let k = z .found l e (first-named a id v i p slots m ∙ h) in
             let good = held-legal t id e lawful (held t id e m h) in
@@ -95,16 +95,16 @@ module _ (own : Text) (slots : List Entry) where
         unfolding every.at-partner
         at-entry = by-name (is-name id) refl
           where
-            by-entry : is-name id ≡ true → (o : Option Entry) → find (filled id) slots ≡ o → Ended (every.turned t id f o)
+            by-entry : is-name id ≡ true → (o : Option Entry) → find (filled id) slots ≡ o → Ended (every.after-turn t id f o)
             by-entry m none h = missed (first-named a id v i p slots m ∙ h)
             by-entry m (some e) h = hit e m h
 
-            by-name : (b : Bool) → is-name id ≡ b → Ended (every.turned t id f (every.entry-of id t))
+            by-name : (b : Bool) → is-name id ≡ b → Ended (every.after-turn t id f (every.entry-of id t))
             by-name true m =
-                subst (λ (o : Option Entry). Ended (every.turned t id f o)) (sym (if-true (is-name id) _ _ m))
+                subst (λ (o : Option Entry). Ended (every.after-turn t id f o)) (sym (if-true (is-name id) _ _ m))
                 (by-entry m (find (filled id) slots) refl)
             by-name false m =
-                subst (λ (o : Option Entry). Ended (every.turned t id f o)) (sym (if-false (is-name id) _ _ m))
+                subst (λ (o : Option Entry). Ended (every.after-turn t id f o)) (sym (if-false (is-name id) _ _ m))
                 (missed (first-unnamed a id v i p slots m))
 
   -- ---- every act in a legal table

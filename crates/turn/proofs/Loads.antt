@@ -15,7 +15,7 @@ use Rattle.partner.specs.declared.Entry.{Entry}
 use Rattle.partner.specs.Entry.{filled, name-of}
 use Rattle.partner.specs.Changes.{loaded}
 use Rattle.partner.proofs.Claims as entries
-use Rattle.partner.specs.Table.{is-empty, identities, differs, place}
+use Rattle.partner.specs.Table.{is-empty, identities, differs, into-free-slot}
 use Rattle.calls.specs.Words.{if_then_else_}
 use Rattle.calls.specs.Outcome.{Turn}
 use Rattle.calls.specs.Calls as every
@@ -107,15 +107,15 @@ module _ (own : Text) (slots : List Entry) (s : Sight) (id name : Text) (top : T
   refused n e h = refuses own slots a s z asks name room n (e ∙ order) h
 
   module _ (u : unfit a s ≡ false) (n : is-name name ≡ true) (o : odd-top top ≡ true) where
-    placed : (f : Option Entry) → first is-empty slots ≡ f → Loads (every.placed (t own slots) (place x slots))
+    placed : (f : Option Entry) → first is-empty slots ≡ f → Loads (every.after-load (t own slots) (into-free-slot x slots))
     unfolding is-sought turn
     placed none h =
-        subst (λ (p : Option (List Entry)). Loads (every.placed (t own slots) p)) (sym (none-free x slots h))
+        subst (λ (p : Option (List Entry)). Loads (every.after-load (t own slots) p)) (sym (none-free x slots h))
         (refused 9 (loads-9 a s (is-name name) (odd-top top) u n o (z .missed l h .0)) (λ z. absurd (omega arith)))
     placed (some f) h =
         let k = z .found l f h in
         let d = way-turned own a s asks name room 0 (loads-0 a s (is-name name) (odd-top top) u n o (k .0) ∙ order) refl in
-        subst (λ (p : Option (List Entry)). Loads (every.placed (t own slots) p)) (sym (one-free x slots f h))
+        subst (λ (p : Option (List Entry)). Loads (every.after-load (t own slots) p)) (sym (one-free x slots f h))
         (ap (λ (r : Turn). r .outcome) d, ap (λ (r : Turn). set slots (s .at) (r .entry)) d ∙ k .2 x)
 
   pub loads : Loads (every.loading (t own slots) id name top)
@@ -126,7 +126,7 @@ module _ (own : Text) (slots : List Entry) (s : Sight) (id name : Text) (top : T
       taken = unfit-is own id slots s (z .taken l refl)
 
       by-key : unfit a s ≡ false → is-name name ≡ true → (b : Bool) → odd-top top ≡ b
-          → Loads (if not (odd-top top) then refuse (t own slots) 11 else every.placed (t own slots) (place x slots))
+          → Loads (if not (odd-top top) then refuse (t own slots) 11 else every.after-load (t own slots) (into-free-slot x slots))
       by-key u n true o = subst Loads (sym (if-false (not (odd-top top)) _ _ (ap not o))) (placed u n o (first is-empty slots) refl)
       by-key u n false o =
           subst Loads (sym (if-true (not (odd-top top)) _ _ (ap not o)))
@@ -134,7 +134,7 @@ module _ (own : Text) (slots : List Entry) (s : Sight) (id name : Text) (top : T
 
       by-name : unfit a s ≡ false → (b : Bool) → is-name name ≡ b
           → Loads (if not (is-name name) then refuse (t own slots) 12 else
-          if not (odd-top top) then refuse (t own slots) 11 else every.placed (t own slots) (place x slots))
+          if not (odd-top top) then refuse (t own slots) 11 else every.after-load (t own slots) (into-free-slot x slots))
       by-name u true n = subst Loads (sym (if-false (not (is-name name)) _ _ (ap not n))) (by-key u n (odd-top top) refl)
       by-name u false n =
           subst Loads (sym (if-true (not (is-name name)) _ _ (ap not n)))
@@ -143,7 +143,7 @@ module _ (own : Text) (slots : List Entry) (s : Sight) (id name : Text) (top : T
       by-identity : (b : Bool) → unfit a s ≡ b
           → Loads (if not (is-name id && differs (filled id) (filled own ∷ identities slots)) then refuse (t own slots) 10 else
           if not (is-name name) then refuse (t own slots) 12 else
-          if not (odd-top top) then refuse (t own slots) 11 else every.placed (t own slots) (place x slots))
+          if not (odd-top top) then refuse (t own slots) 11 else every.after-load (t own slots) (into-free-slot x slots))
       by-identity true u =
           subst Loads (sym (if-true (not (is-name id && differs (filled id) (filled own ∷ identities slots))) _ _ (sym taken ∙ u)))
           (refused 10 (loads-10 a s (is-name name) (odd-top top) u) (λ z. absurd (omega arith)))

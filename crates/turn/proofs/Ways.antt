@@ -27,7 +27,7 @@ use Rattle.sight.specs.declared.Sight.{Sight}
 use Rattle.sight.specs.Aim.{with-room, aim-of}
 use Rattle.sight.specs.Asked.{call-of}
 use Rattle.sight.specs.Request.{request-in}
-use Rattle.sight.specs.Table.{over}
+use Rattle.sight.specs.Table.{over-row}
 use Rattle.sight.proofs.Sees.{Sees}
 use Rattle.turn.specs.Way.{unfit, by-act, refusal, turn, take}
 use Rattle.turn.proofs.Answers.{gives-13, gives-6, gives-further}
@@ -72,8 +72,8 @@ module _ (own : Text) (slots : List Entry) where
 
   -- every call
   ends : (s : Sight) (x : Act) (who text : Text) (room : ℕ) → Sees own slots (aim-of x own who text) s
-      → Goes s x who text room (over own slots (call-of x room who text))
-  unfolding over every.run
+      → Goes s x who text room (over-row own slots (call-of x room who text))
+  unfolding over-row every.run
   ends s x who text room z = by-name (is-name own) refl
     where
       Gone : After → Type 0
@@ -98,8 +98,8 @@ module _ (own : Text) (slots : List Entry) where
 -- the outcome is the call's, and the turned entry put where one was seen gives the table after it
 pub way-ends : (own : Text) (slots : List Entry) (q : Act) (who text : Text) (room : ℕ) (s : Sight)
     → Sees own slots (aim-of q own who text) s
-    → (take own (aim-of q own who text) s q text room .outcome ≡ over own slots (call-of q room who text) .outcome)
-    × (set slots (s .at) (take own (aim-of q own who text) s q text room .entry) ≡ over own slots (call-of q room who text) .table .slots)
+    → (take own (aim-of q own who text) s q text room .outcome ≡ over-row own slots (call-of q room who text) .outcome)
+    × (set slots (s .at) (take own (aim-of q own who text) s q text room .entry) ≡ over-row own slots (call-of q room who text) .table .slots)
 way-ends own slots q who text room s z = ends own slots s q who text room z
 
 -- ---- another room

@@ -12,7 +12,7 @@ use Rattle.partner.specs.Entry.{name-of}
 use Rattle.partner.specs.Changes.{loaded}
 use Rattle.calls.specs.Outcome.{Turn, nothing, refused, done}
 use Rattle.calls.specs.Build.{give-up}
-use Rattle.calls.specs.Calls.{emptied, told}
+use Rattle.calls.specs.Calls.{emptied, unturned}
 use Rattle.outcome.specs.Acts.{receive, build-ksm, build-rsi}
 use Rattle.sight.specs.declared.aims.Act.{Act}
 use Rattle.sight.specs.declared.aims.Act.the-variants.{Receive, BuildKsm, BuildRsi, GiveUp, Remove, Ask, Load}
@@ -59,7 +59,7 @@ turn own id e BuildKsm text room = build-ksm own e room (request-in text)
 turn own id e BuildRsi text room = build-rsi own e room text
 turn own id e GiveUp text room = give-up e
 turn own id e Remove text room = emptied e
-turn own id e Ask text room = told e
+turn own id e Ask text room = unturned e
 turn own id e (Load top) text room = done (loaded id (name-of text) top) [] nothing
 
 -- ---- the way

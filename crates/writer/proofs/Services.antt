@@ -5,8 +5,8 @@ use Prim.Native.Nat.{ℕ, _*_, _<_, _≤_}
 use lib.ListN.{drop, getD, List·getD-eq-default}
 use Rattle.octets.specs.Text.{Text, ascii, same}
 use Rattle.octets.specs.Part.{bare}
+use Rattle.octets.proofs.Comparing.{same-equal as same-true}
 use Rattle.csm.specs.Fields.{services}
-use Rattle.csm.proofs.TextLaws.{same-true}
 use Rattle.csm.proofs.FieldLaws.{below-at}
 
 -- as the code has it

@@ -7,8 +7,9 @@ use borrow.Author.Needs.{needs}
 use borrow.Author.Tests.{not-true, not-false}
 use lib.ListN.{getD}
 use Rattle.octets.specs.Text.{Text}
+use Rattle.octets.specs.Part.{found}
 use Rattle.octets.proofs.Comparing.{octets-lent}
-use Rattle.image.specs.Image.{record-length, decode, found}
+use Rattle.image.specs.Image.{record-length, decode}
 use Rattle.image.specs.Pass.{front-legal, record-legal}
 use Rattle.image.proofs.Legality.{legal-pass}
 use Rattle.image.proofs.Passes.{records-legal, records-end, records-step}

@@ -32,7 +32,7 @@ returns-2 c =
     (c .refused2 .ensures ∙ ap turned t, unreplied _ _ (a .reply .now) refl t)
 
 by-class-requires : tie.Need-by-class-requires
-by-class-requires c κs = record { lawful = is-sound (c .before .before); room = c .before .if2 .left }
+by-class-requires c κs = record { lawful = is-sound (c .before .before); roomy = c .before .if2 .left }
 
 returns-3 : tie.Need-returns-3
 returns-3 c =

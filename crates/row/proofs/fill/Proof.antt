@@ -52,7 +52,7 @@ use denote.Builtin.{u32}
 use Rattle.partner.specs.declared.Entry.{Entry}
 use Rattle.partner.specs.Entry.{empty}
 use Rattle.image.specs.Image.{slots-in}
-use Rattle.row.specs.Stored.{filled, refilled}
+use Rattle.row.specs.Stored.{slots-to-fill, refilled}
 use Rattle.partner.proofs.Entry as T
 use Rattle.partner.proofs.Entry.Laws as T′
 use Rattle.row.proofs.Walk.{hears}
@@ -156,8 +156,8 @@ module _ {M : Type 1} (𝓤 : URA M) (H : Heap 𝓤) (A : Atoms 𝓤) (W : Given
   asks-filled : a < 2 ^ 32 → n < 2 ^ 64 → ent 𝓤 (emp 𝓤) (Filled 𝓤 H A mem run .pre to-filled)
   asks-filled ga gn = qed W [] ∵ nothing ! $ owned ! usize (Is usize) (uint-makes 𝓤 H A W w64) n _ (refl, gn) $ fjoin ! $ owned ! u32 (Is u32) (uint-makes 𝓤 H A W w32) a _ (refl, ga) $ fjoin ! $ nothing ! $ join ! $ frame ! $ done !
 
-  said-filled : (r : ℕ) → ent 𝓤 (ensured 𝓤 H A filled′.ended (filled′.clauses 𝓤 H A mem run) tt (a, (n, tt)) tt r) (fact 𝓤 (r ≡ filled a n))
-  said-filled r = exE 𝓤 _ (λ ws. snd∗ 𝓤 (sem 𝓤 H A (lasts filled′.ended tt (a, (n, tt)) ws)) (fact 𝓤 (r ≡ filled a n)))
+  said-filled : (r : ℕ) → ent 𝓤 (ensured 𝓤 H A filled′.ended (filled′.clauses 𝓤 H A mem run) tt (a, (n, tt)) tt r) (fact 𝓤 (r ≡ slots-to-fill a n))
+  said-filled r = exE 𝓤 _ (λ ws. snd∗ 𝓤 (sem 𝓤 H A (lasts filled′.ended tt (a, (n, tt)) ws)) (fact 𝓤 (r ≡ slots-to-fill a n)))
 
   abbrev to-slot : ℕ → Slot 𝓤 H A mem run .Ghost
   to-slot j = (((κ₁, tt), (q₁, tt), tt, (image, (j, tt)), (v₁ ∷ [], (vint w64 j ∷ [], tt))), tt)
@@ -172,7 +172,7 @@ module _ {M : Type 1} (𝓤 : URA M) (H : Heap 𝓤) (A : Atoms 𝓤) (W : Given
     abbrev En : Env 𝓤 H
     En = (tyUnit, l₀) ∷ (slice, l₁) ∷ (bytes, l₂) ∷ (half, l₃) ∷ (word, l₄) ∷ (word, l₅) ∷ (word, l₆) ∷ (tyBool, l₇) ∷ (T′.mir, l₈) ∷ (word, l₉) ∷ (tyPtr, l₁₀) ∷ []
 
-    module _ (m : ℕ) (em : m ≡ filled a n) (gm : m < 2 ^ 64) where
+    module _ (m : ℕ) (em : m ≡ slots-to-fill a n) (gm : m < 2 ^ 64) where
       abbrev S : Type 0
       S = Filling im₁ ys m
 
@@ -243,7 +243,7 @@ module _ {M : Type 1} (𝓤 : URA M) (H : Heap 𝓤) (A : Atoms 𝓤) (W : Given
         assigns ! (of-opd ! (load ! (from ! (fld ! refl (stop !))) (look-in ! 18 (sub ! 1 refl (whole !))))) (from ! (stop !)) (init ! 8 refl (tt, record { fits = gn .0 })) $
         use0 W (raw (Filled 𝓤 H A mem run .pre to-filled)) (asks-filled ga (gn .0)) $
         calls-at ! fm (Filled 𝓤 H A mem run) (known .filled) to-filled (and-then ! (load ! (from ! (stop !)) (look ! 15 refl)) (and-then ! (load ! (from ! (stop !)) (look ! 9 refl)) (no-more !))) (λ u.
-        hears ! tt usize (‵ ftrue) _ (λ r. r ≡ filled a n) said-filled u (id⊢ 𝓤 _) (λ m em im. drop ! $ land ! (from ! (stop !)) (init ! 12 refl (uint-lawful 𝓤 H A W w64 .typed m _ im .0)) $
+        hears ! tt usize (‵ ftrue) _ (λ r. r ≡ slots-to-fill a n) said-filled u (id⊢ 𝓤 _) (λ m em im. drop ! $ land ! (from ! (stop !)) (init ! 12 refl (uint-lawful 𝓤 H A W w64 .typed m _ im .0)) $
         rewrite ! 12 (λ (z : Val). ‵ (fat fullShare word l₄ 0 z)) (ap only (im .0)) refl $ assigns ! (of-opd ! (lit ! tt)) (from ! (stop !)) (init ! 10 refl (tt, record { fits = lit< tt })) $
         move ! (22 ∷ []) $ split ! $ move ! (1 ∷ []) $ split ! $ move ! (1 ∷ []) $ drop ! $ move ! (24 ∷ []) $ fsplit ! $ move ! (1 ∷ []) $ fsplit ! $ move ! (1 ∷ []) $ drop ! $ move ! (1 ∷ []) $
         fsplit ! $ drop ! $ fsplit ! $ move ! (0 ∷ 1 ∷ 4 ∷ 3 ∷ 2 ∷ []) $

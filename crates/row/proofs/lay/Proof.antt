@@ -55,7 +55,7 @@ use denote.Index.{whole-in, whole-out}
 use types.SemTy.{cells, Arr}
 use Rattle.partner.specs.declared.Entry.{Entry}
 use Rattle.partner.specs.Entry.{empty}
-use Rattle.row.specs.Stored.{filled, put-slot, behind, laid}
+use Rattle.row.specs.Stored.{slots-to-fill, put-slot, behind, laid}
 use Rattle.partner.proofs.Entry as T
 use Rattle.partner.proofs.Entry.Laws as T′
 use Rattle.row.proofs.Walk.{hears, hears-last, one-fact}
@@ -155,8 +155,8 @@ module _ {M : Type 1} (𝓤 : URA M) (H : Heap 𝓤) (A : Atoms 𝓤) (W : Given
   asks-filled : a < 2 ^ 32 → n < 2 ^ 64 → ent 𝓤 (emp 𝓤) (Filled 𝓤 H A mem run .pre to-filled)
   asks-filled ga gn = qed W [] ∵ nothing ! $ owned ! usize (Is usize) (uint-makes 𝓤 H A W w64) n _ (refl, gn) $ fjoin ! $ owned ! u32 (Is u32) (uint-makes 𝓤 H A W w32) a _ (refl, ga) $ fjoin ! $ nothing ! $ join ! $ frame ! $ done !
 
-  said-filled : (r : ℕ) → ent 𝓤 (ensured 𝓤 H A filled′.ended (filled′.clauses 𝓤 H A mem run) tt (a, (n, tt)) tt r) (fact 𝓤 (r ≡ filled a n))
-  said-filled r = exE 𝓤 _ (λ ws. snd∗ 𝓤 (sem 𝓤 H A (lasts filled′.ended tt (a, (n, tt)) ws)) (fact 𝓤 (r ≡ filled a n)))
+  said-filled : (r : ℕ) → ent 𝓤 (ensured 𝓤 H A filled′.ended (filled′.clauses 𝓤 H A mem run) tt (a, (n, tt)) tt r) (fact 𝓤 (r ≡ slots-to-fill a n))
+  said-filled r = exE 𝓤 _ (λ ws. snd∗ 𝓤 (sem 𝓤 H A (lasts filled′.ended tt (a, (n, tt)) ws)) (fact 𝓤 (r ≡ slots-to-fill a n)))
 
   asks-look : (j : ℕ) → j < 2 ^ 64 → ent 𝓤 (⋆ 𝓤 H A (‵ (flft κ q) ∷ ‵ Own₀ ∷ [])) (LookUp 𝓤 H A mem run .pre (to-look 𝓤 H A mem run κ q row j))
   asks-look j gj = qed W (‵ (flft κ q) ∷ ‵ Own₀ ∷ []) ∵ nothing ! $ owned ! usize (Is usize) (uint-makes 𝓤 H A W w64) j _ (refl, gj) $ fjoin ! $ move ! (2 ∷ 0 ∷ []) $ fjoin ! $ nothing ! $ move ! (2 ∷ 0 ∷ []) $ join ! $ join ! $ frame ! $ done !
@@ -171,7 +171,7 @@ module _ {M : Type 1} (𝓤 : URA M) (H : Heap 𝓤) (A : Atoms 𝓤) (W : Given
     abbrev En : Env 𝓤 H
     En = (tyUnit, l₀) ∷ ((sliceTy (tyRef (named 0) imm (pointee (R .written)))), l₁) ∷ ((sliceTy (tyRef (named 1) mut (tyInt w8))), l₂) ∷ ((tyInt w32), l₃) ∷ ((tyInt w64), l₄) ∷ ((tyInt w64), l₅) ∷ ((tyInt w64), l₆) ∷ ((tyInt w64), l₇) ∷ (tyBool, l₈) ∷ ((tyRef erased mut (tyInt w8)), l₉) ∷ ((sliceTy (tyRef erased mut (tyInt w8))), l₁₀) ∷ (T′.mir, l₁₁) ∷ []
 
-    module _ (m : ℕ) (em : m ≡ filled a n) where
+    module _ (m : ℕ) (em : m ≡ slots-to-fill a n) where
       abbrev S : Type 0
       S = Laid ys out m
 
@@ -253,7 +253,7 @@ module _ {M : Type 1} (𝓤 : URA M) (H : Heap 𝓤) (A : Atoms 𝓤) (W : Given
         assigns ! (of-opd ! (load ! (from ! (fld ! refl (stop !))) (look-in ! 20 (sub ! 1 refl (whole !))))) (from ! (stop !)) (init ! 8 refl (tt, record { fits = gn .0 })) $
         use0 W (raw (Filled 𝓤 H A mem run .pre to-filled)) (asks-filled ga (gn .0)) $
         calls-at ! fm (Filled 𝓤 H A mem run) (known .filled) to-filled (and-then ! (load ! (from ! (stop !)) (look ! 17 refl)) (and-then ! (load ! (from ! (stop !)) (look ! 9 refl)) (no-more !))) (λ u.
-        hears ! tt usize (‵ ftrue) _ (λ r. r ≡ filled a n) said-filled u (id⊢ 𝓤 _) (λ m em im. drop ! $ land ! (from ! (stop !)) (init ! 14 refl (uint-lawful 𝓤 H A W w64 .typed m _ im .0)) $
+        hears ! tt usize (‵ ftrue) _ (λ r. r ≡ slots-to-fill a n) said-filled u (id⊢ 𝓤 _) (λ m em im. drop ! $ land ! (from ! (stop !)) (init ! 14 refl (uint-lawful 𝓤 H A W w64 .typed m _ im .0)) $
         rewrite ! 14 (λ (z : Val). ‵ (fat fullShare (tyInt w64) l₄ 0 z)) (ap only (im .0)) refl $ assigns ! (of-opd ! (lit ! tt)) (from ! (stop !)) (init ! 12 refl (tt, record { fits = lit< tt })) $
         assigns ! (of-opd ! (lit ! tt)) (from ! (stop !)) (init ! 10 refl (tt, record { fits = lit< tt })) $ move ! (24 ∷ []) $ split ! $ move ! (1 ∷ []) $ split ! $ move ! (1 ∷ []) $ drop ! $
         move ! (26 ∷ []) $ fsplit ! $ move ! (1 ∷ []) $ fsplit ! $ move ! (1 ∷ []) $ drop ! $ fsplit ! $ drop ! $ fsplit ! $ move ! (0 ∷ 1 ∷ 4 ∷ 3 ∷ 2 ∷ []) $

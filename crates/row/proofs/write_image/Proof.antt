@@ -52,7 +52,7 @@ use types.SemTy.{cells, Arr}
 use Rattle.outcome.specs.Report.{report, replied}
 use Rattle.row.specs.Stored.{size, write-answer, laid, fronted, write-report}
 use Rattle.sight.specs.Table.{row-legal}
-use Rattle.row.specs.Calls.{written}
+use Rattle.row.specs.Calls.{image-given}
 use Rattle.row.proofs.Walk.{value, shared, unique, hears, hears-last, one-fact, says-all}
 use Rattle.row.proofs.Writing.{written-is}
 use Rattle.outcome.specs.declared.Report.{Report}
@@ -136,7 +136,7 @@ module _ {M : Type 1} (𝓤 : URA M) (H : Heap 𝓤) (A : Atoms 𝓤) (W : Given
   abbrev Post′ : Val → SProp 𝓤
   Post′ = walkOf 𝓤 H A F.ended stayed (F.clauses 𝓤 H A mem run) .post (((κ₀, (κ₁, (κ₂, tt))), (q₀, (q₁, (q₂, tt))), tt, x, at), tt)
 
-  exits : (r : Report) (u : Val) (is : Is Rep.the-row r (u ∷ [])) (z₂ : List ℕ) (l₂ : length z₂ ≡ length (s₂ .now)) (f : (r ≡ report (written (s₁ .now) (s₀ .now) (length (s₂ .now)))) × (z₂ ≡ replied (written (s₁ .now) (s₀ .now) (length (s₂ .now))) (s₂ .now)))
+  exits : (r : Report) (u : Val) (is : Is Rep.the-row r (u ∷ [])) (z₂ : List ℕ) (l₂ : length z₂ ≡ length (s₂ .now)) (f : (r ≡ report (image-given (s₁ .now) (s₀ .now) (length (s₂ .now)))) × (z₂ ≡ replied (image-given (s₁ .now) (s₀ .now) (length (s₂ .now))) (s₂ .now)))
       → ent 𝓤 (⋆ 𝓤 H A (‵ (flft κ₀ q₀) ∷ ‵ (flft κ₁ q₁) ∷ ‵ (flft κ₂ q₂) ∷ ‵ (shared 0 κ₀ R s₀) ∷ ‵ (shared 1 κ₁ u8 s₁) ∷ ‵ (finally u8 (s₂ .name) z₂) ∷ [])) (Post′ u)
   exits r u is z₂ l₂ f =
       qed W (‵ (flft κ₀ q₀) ∷ ‵ (flft κ₁ q₁) ∷ ‵ (flft κ₂ q₂) ∷ ‵ (shared 0 κ₀ R s₀) ∷ ‵ (shared 1 κ₁ u8 s₁) ∷ ‵ (finally u8 (s₂ .name) z₂) ∷ []) ∵

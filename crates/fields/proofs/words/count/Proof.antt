@@ -7,8 +7,9 @@ use native.Mathlib.Omega.{arith}
 use lib.ListN.{length}
 use borrow.Author.Tests.{eq-eqb, ne-eqb, not-true, not-false}
 use Rattle.octets.specs.Text.{all, within, run-char, is-run}
+use Rattle.octets.proofs.Comparing.{both as and-true}
 use Rattle.csm.specs.Fields.{numeral, count}
-use Rattle.csm.proofs.TextLaws.{and-true, within-true}
+use Rattle.csm.proofs.TextLaws.{within-true}
 use Rattle.csm.proofs.NumberLaws.{no-zero}
 use Rattle.csm.proofs.WordTests.{count-value}
 use Rattle.fields.proofs.PieceLaws.{number-is, number-not}

@@ -3,19 +3,19 @@ use mathlib.Core.Path.{_≡_}
 use mathlib.Core.Bool.{true, false}
 use lib.Dec.{eqb}
 use borrow.Author.Tests.{eq-eqb, ne-eqb}
-use Rattle.row.specs.Stored.{filled}
+use Rattle.row.specs.Stored.{slots-to-fill}
 use Rattle.row.proofs.stored.filled.Statement.{statement}
 use Rattle.row.proofs.stored.filled.Tie as tie
 
 returns : tie.Need-returns
-unfolding filled
+unfolding slots-to-fill
 returns c =
     let a = c .before .args in
     let h : eqb (a .answer) 0 ≡ false = ne-eqb (a .answer) 0 (c .if1 .taken) in
     rw h
 
 returns-2 : tie.Need-returns-2
-unfolding filled
+unfolding slots-to-fill
 returns-2 c =
     let a = c .before .before .args in
     let h : eqb (a .answer) 0 ≡ true = eq-eqb (a .answer) 0 (c .before .if1 .left) in
@@ -23,7 +23,7 @@ returns-2 c =
     rw (h, k)
 
 returns-3 : tie.Need-returns-3
-unfolding filled
+unfolding slots-to-fill
 returns-3 c =
     let a = c .before .before .args in
     let h : eqb (a .answer) 0 ≡ true = eq-eqb (a .answer) 0 (c .before .if1 .left) in

@@ -9,7 +9,8 @@ use Rattle.octets.proofs.Numbers.{wrote-copies}
 use Rattle.octets.proofs.Writing.{wrote-rest, wrote-as}
 use Rattle.partner.specs.Record.{entry-bytes}
 use Rattle.image.proofs.Buffers.{put-small, room-left, wrote-entry}
-use Rattle.row.proofs.Laying.{entry-held, empty-record, partner-record}
+use Rattle.image.proofs.Numbered.{full-bytes as partner-record}
+use Rattle.row.proofs.Laying.{entry-held, empty-record}
 use Rattle.row.proofs.stored.put_record.Statement.{statement}
 use Rattle.row.proofs.stored.put_record.Tie as tie
 

@@ -4,9 +4,10 @@ use native.Mathlib.Omega.{arith}
 use borrow.Author.Needs.{needs}
 use lib.ListN.{length}
 use Rattle.partner.specs.Record.{entry-bytes}
-use Rattle.row.proofs.Laying.{entry-held, empty-record, partner-record}
+use Rattle.row.proofs.Laying.{entry-held, empty-record}
 use Rattle.row.proofs.stored.slot_length.Statement.{statement}
 use Rattle.row.proofs.stored.slot_length.Tie as tie
+use Rattle.image.proofs.Numbered.{full-bytes as partner-record}
 
 returns : tie.Need-returns
 returns c =
