@@ -14,7 +14,6 @@ mod key;
 mod seen;
 
 use outcome::Report;
-use outcome::Turned;
 use sight::Found;
 use sight::aims;
 use sight::aims::Act;
