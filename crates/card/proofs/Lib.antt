@@ -7,6 +7,7 @@ pub mod Lasting
 pub mod Seeing
 pub mod Calling
 pub mod Whole
+pub mod Roomed
 pub mod Ends
 pub mod Starting
 pub mod Orders

@@ -4,7 +4,7 @@ ghost use Rattle.card.specs.Ways as ways;
 use keying::Top;
 
 // The key; where there is none, one of zeros.
-pub fn top_of(key: &[u8]) -> Top
+pub(crate) fn top_of(key: &[u8]) -> Top
     ensures { λ r. ⌜ r ≡ ways.top-of (now (key .entry)) ⌝ }
 {
     if key.len() == 8 {
@@ -17,7 +17,7 @@ pub fn top_of(key: &[u8]) -> Top
 }
 
 // The key's name; where there is no key, none.
-pub fn name_with<'a>(name: &'a [u8], key: &[u8]) -> &'a [u8]
+pub(crate) fn name_with<'a>(name: &'a [u8], key: &[u8]) -> &'a [u8]
     ensures { λ r. ⌜ now r ≡ ways.name-with (now (name .entry)) (now (key .entry)) ⌝ }
 {
     if key.len() == 8 {

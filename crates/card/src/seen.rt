@@ -29,7 +29,7 @@ fn sought(image: &[u8], aim: Aim) -> usize
 }
 
 // What is seen; of what is no legal image nothing.
-pub fn look_up(image: &[u8], aim: Aim) -> Sight
+pub(crate) fn look_up(image: &[u8], aim: Aim) -> Sight
     ensures { λ r. ⌜ r ≡ ways.seen aim (now (image .entry)) ⌝ }
 {
     if !image::legal(image) {

@@ -12,7 +12,7 @@ ghost use Rattle.image.specs.Results as results;
 use partner::Entry;
 
 // The length of a record by its kind: a kind that is added later is one case more here.
-pub fn record_length(kind: u8) -> usize
+pub(crate) fn record_length(kind: u8) -> usize
     ensures { λ r. ⌜ r ≡ images.record-length kind ⌝ }
 {
     if kind == 2 { 157 } else { 1 }
@@ -26,14 +26,14 @@ fn smaller(a: usize, b: usize) -> usize
 }
 
 // The byte at a place, 0 past the end.
-pub fn byte_at(image: &[u8], at: usize) -> u8
+pub(crate) fn byte_at(image: &[u8], at: usize) -> u8
     ensures { λ r. ⌜ r ≡ getD (now (image .entry)) at 0 ⌝ }
 {
     if at < image.len() { image[at] } else { 0 }
 }
 
 // The k bytes from a place on, as many as there are.
-pub fn part(image: &[u8], at: usize, k: usize) -> &[u8]
+pub(crate) fn part(image: &[u8], at: usize, k: usize) -> &[u8]
     ensures { λ r. ⌜ now r ≡ take k (drop at (now (image .entry))) ⌝ }
 {
     let from = smaller(at, image.len());
@@ -43,7 +43,7 @@ pub fn part(image: &[u8], at: usize, k: usize) -> &[u8]
 }
 
 // The entry of the record at a place.
-pub fn entry_at(image: &[u8], at: usize) -> Entry
+pub(crate) fn entry_at(image: &[u8], at: usize) -> Entry
     ensures { λ r. ⌜ r ≡ places.entry-at at (now (image .entry)) ⌝ }
 {
     if at < image.len() {
@@ -64,7 +64,7 @@ fn is_partner(image: &[u8], at: usize, identity: &[u8]) -> bool
 }
 
 // Of `count` records from a place on: the number of the partner's with that identity, `count` where there is none.
-pub fn seek(image: &[u8], identity: &[u8], from: usize, count: usize) -> usize
+pub(crate) fn seek(image: &[u8], identity: &[u8], from: usize, count: usize) -> usize
     requires { ⌜ from + 157 * count ≤ 10_065 ⌝ }
     ensures { λ r. ⌜ r ≡ places.seek-slot count 0 from (now (identity .entry)) (now (image .entry)) ⌝ }
 {
@@ -83,7 +83,7 @@ pub fn seek(image: &[u8], identity: &[u8], from: usize, count: usize) -> usize
 // ---- an image with a record changed
 
 // An entry put back at the place of its record.
-pub fn put_at(image: &mut [u8], at: usize, e: Entry)
+pub(crate) fn put_at(image: &mut [u8], at: usize, e: Entry)
     ensures { λ r. ⌜ now (image .exit) ≡ results.put-back at e (now (image .entry)) ⌝ }
 {
     if at < image.len() {
@@ -114,7 +114,7 @@ fn put_added(out: &mut [u8], image: &[u8], at: usize, e: Entry) -> usize
 }
 
 // The image with a partner added in the empty slot at a place, in `out`; its length, 0 where there is no room for it.
-pub fn load_at(image: &[u8], at: usize, e: Entry, out: &mut [u8]) -> usize
+pub(crate) fn load_at(image: &[u8], at: usize, e: Entry, out: &mut [u8]) -> usize
     ensures { λ r. ⌜ now (out .exit) ≡ results.delivered (results.added at e (now (image .entry))) (now (out .entry)) ⌝ }
     ensures { λ r. ⌜ r ≡ results.size-delivered (results.added at e (now (image .entry))) (now (out .entry)) ⌝ }
 {
@@ -139,7 +139,7 @@ fn put_removed(out: &mut [u8], image: &[u8], at: usize) -> usize
 }
 
 // The image with a partner's record taken out, in `out`; its length, 0 where there is no room for it.
-pub fn remove_at(image: &[u8], at: usize, out: &mut [u8]) -> usize
+pub(crate) fn remove_at(image: &[u8], at: usize, out: &mut [u8]) -> usize
     ensures { λ r. ⌜ now (out .exit) ≡ results.delivered (results.removed at (now (image .entry))) (now (out .entry)) ⌝ }
     ensures { λ r. ⌜ r ≡ results.size-delivered (results.removed at (now (image .entry))) (now (out .entry)) ⌝ }
 {

@@ -13,7 +13,7 @@ use Rattle.sight.specs.Aim.{with-room}
 use Rattle.turn.specs.Way.{turn}
 use Rattle.card.specs.Ways.{aim}
 use Rattle.card.proofs.Delivering.{put-so}
-use Rattle.card.proofs.Whole.{ask-all, ask-long, was-roomy}
+use Rattle.card.proofs.Roomed.{ask-all, ask-long, was-roomy}
 use Rattle.card.proofs.Ends.{refused-end, way-went, found-as}
 use borrow.Author.Needs.{needs}
 use Rattle.card.proofs.ask.Statement.{statement}

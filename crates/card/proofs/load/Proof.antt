@@ -18,7 +18,7 @@ use Rattle.turn.specs.Way.{turn}
 use Rattle.card.specs.Ways.{aim, top-of, name-with, seen}
 use Rattle.card.specs.Whole.{largest}
 use Rattle.card.proofs.Delivering.{delivered-so}
-use Rattle.card.proofs.Whole.{load-all, load-so}
+use Rattle.card.proofs.Roomed.{load-all, load-so}
 use Rattle.card.proofs.Ends.{refused-end, way-went, aimed-as, found-as}
 use borrow.Author.Needs.{needs}
 use Rattle.card.proofs.load.Statement.{statement}

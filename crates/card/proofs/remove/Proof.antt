@@ -13,7 +13,7 @@ use Rattle.turn.specs.Way.{turn}
 use Rattle.card.specs.Ways.{aim}
 use Rattle.card.specs.Whole.{largest}
 use Rattle.card.proofs.Delivering.{delivered-so}
-use Rattle.card.proofs.Whole.{remove-all, remove-so}
+use Rattle.card.proofs.Roomed.{remove-all, remove-so}
 use Rattle.card.proofs.Ends.{refused-end, way-went, found-as}
 use borrow.Author.Needs.{needs}
 use Rattle.card.proofs.remove.Statement.{statement}
