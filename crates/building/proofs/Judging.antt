@@ -17,9 +17,9 @@ use Rattle.csm.specs.Message.{rsi, print}
 use Rattle.csm.proofs.TextLaws.{some-inj, cond-some}
 use Rattle.fields.specs.declared.Number.the-variants as number
 use Rattle.fields.specs.Seen.{number-seen}
-use Rattle.fields.specs.Steps.{alone}
+use Rattle.fields.proofs.PieceLaws.{number-none, number-some}
 use Rattle.partner.specs.declared.Entry.{Entry}
-use Rattle.partner.specs.Changes.{issued}
+use Rattle.partner.specs.Changes.{with-sending, issued}
 use Rattle.calls.specs.declared.Request.{Request}
 use Rattle.calls.specs.Outcome.{Turn, nothing, refused, done}
 use Rattle.calls.specs.Receive.{to-partner}
@@ -36,7 +36,7 @@ pub record Good (own : Text) (e : Entry) (room : ℕ) (q : Request) (t : Turn) :
   pub is-sound : sound own e ≡ true
   pub roomy : 256 ≤ room
   pub formed : malformed q ≡ false
-  pub turn : t ≡ done (issued e (outgoing-of q)) (ksm-text own e q) nothing
+  pub turn : t ≡ done (with-sending e (issued (e .sending) (outgoing-of q))) (ksm-text own e q) nothing
 
 -- none of these tests holds, test by test
 abbrev All-false : Order → Type 0
@@ -59,7 +59,7 @@ asks {ts = ts} true n z w = record {
 asks false n z w = record { turn = w .turn; passed = λ p. (refl, w .passed p) }
 
 module _ (own : Text) (e : Entry) (room : ℕ) (q : Request) where
-  walk : Walks e (done (issued e (outgoing-of q)) (ksm-text own e q) nothing) (build-ksm own e room q)
+  walk : Walks e (done (with-sending e (issued (e .sending) (outgoing-of q))) (ksm-text own e q) nothing) (build-ksm own e room q)
       (order.build-ksm own e room q)
   unfolding build-ksm guarded calls.build-ksm order.build-ksm
   walk =
@@ -92,21 +92,6 @@ rsi-turn own e o =
       | some s ↦ done e (print (to-partner own e (rsi (record { svr = s; edc = none })))) nothing
     ]
 
--- the contents of SVR are a service of the twelve, or none
-service-none : (w : Text) → number-seen svr (alone (value svr w)) ≡ number.Nothing → value svr w ≡ none
-service-none w h = go (value svr w) h
-  where
-    go : (o : Option ℕ) → number-seen svr (alone o) ≡ number.Nothing → o ≡ none
-    go none h = refl
-    go (some s) h = let z : _≡_ {A = ℕ} 0 1 = cc in absurd (omega arith)
-
-service-some : (w : Text) (s n : ℕ) → number-seen svr (alone (value svr w)) ≡ number.Is s n → value svr w ≡ some s
-service-some w s n h = go (value svr w) h
-  where
-    go : (o : Option ℕ) → number-seen svr (alone o) ≡ number.Is s n → o ≡ some s
-    go none h = let z : _≡_ {A = ℕ} 0 1 = cc in absurd (omega arith)
-    go (some r) h = let i : r ≡ s = cc in ap some i
-
 -- both tests passed
 pub ready : {own : Text} {e : Entry} {room : ℕ} {r : Bool} → r ≡ sound own e → not r ≡ false → 256 ≤ room
     → Ready own e room
@@ -126,21 +111,21 @@ module _ (own : Text) (e : Entry) (room : ℕ) (w : Text) where
   unfolding build-rsi guarded
   rsi-goes g = if-false _ _ _ (ap not (g .lawful)) ∙ if-false _ _ _ (le-ltb room 256 (g .roomy))
 
-  pub rsi-none : Ready own e room → number-seen svr (alone (value svr w)) ≡ number.Nothing
+  pub rsi-none : Ready own e room → number-seen (value svr w) ≡ number.Nothing
       → build-rsi own e room w ≡ refused e 12
   unfolding calls.build-rsi
-  rsi-none g h = rsi-goes g ∙ ap (rsi-turn own e) (service-none w h)
+  rsi-none g h = rsi-goes g ∙ ap (rsi-turn own e) (number-none (value svr w) h)
 
-  pub rsi-some : (s n : ℕ) → Ready own e room → number-seen svr (alone (value svr w)) ≡ number.Is s n
+  pub rsi-some : (s : ℕ) → Ready own e room → number-seen (value svr w) ≡ number.Is s
       → build-rsi own e room w ≡ done e (rsi-text own e s) nothing
   unfolding calls.build-rsi rsi-text
-  rsi-some s n g h = rsi-goes g ∙ ap (rsi-turn own e) (service-some w s n h)
+  rsi-some s g h = rsi-goes g ∙ ap (rsi-turn own e) (number-some (value svr w) s h)
 
 -- a service is one of the twelve
-pub service-known : (w : Text) (s n : ℕ) → number-seen svr (alone (value svr w)) ≡ number.Is s n → s < 12
-service-known w s n h =
+pub service-known : (w : Text) (s : ℕ) → number-seen (value svr w) ≡ number.Is s → s < 12
+service-known w s h =
     let g = svr .guess w in
-    let k = cond-some (svr .legal g && same (svr .text g) w) (some g) s (service-some w s n h) in
+    let k = cond-some (svr .legal g && same (svr .text g) w) (some g) s (number-some (value svr w) s h) in
     let i : g ≡ s = some-inj (k .1) in
     let l = and-true (svr .legal g) (same (svr .text g) w) (k .0) in
     ltb-true s 12 (rw i at (l .0))

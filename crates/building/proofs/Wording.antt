@@ -1,31 +1,33 @@
 -- The parts of a message as its writer takes them stand for the message that the steps name.
 use mathlib.Core.Path.{_≡_, refl, sym, ap, _∙_}
-use mathlib.Core.Bool.{Bool, true, false, cond, not, _&&_, true≢false}
+use mathlib.Core.Bool.{Bool, true, false, cond, true≢false}
 use mathlib.Core.List.{[], _∷_, _++_}
 use mathlib.Core.Option.{none, some}
 use Prim.Native.Nat.{ℕ, _≤_, _<_}
 use lib.Dec.{eqb}
 use lib.ListN.{length}
-use borrow.Author.Tests.{le-leb, lt-ltb, not-false}
+use borrow.Author.Tests.{le-leb, lt-ltb}
 use Rattle.octets.specs.Text.{Text, ascii, is-name}
 use Rattle.octets.specs.Part.{bare}
 use Rattle.octets.proofs.Comparing.{both as and-true}
+use Rattle.keying.specs.declared.Blocks.{Blocks}
 use Rattle.keying.specs.Mac.{mac-key, mac}
 use Rattle.keying.specs.Iv.{conceal}
-use Rattle.keying.specs.Date.{is-date}
+use Rattle.keying.proofs.Laws.{second-made}
 use Rattle.csm.specs.Fields.{hex-text, nonempty, legal-name}
 use Rattle.csm.specs.Message.{Reading, ksm, rsi, legal, legal-body, print}
 use Rattle.csm.specs.Covered.{covered-part}
 use Rattle.csm.proofs.MessageLaws.{read-back}
+use Rattle.partner.specs.declared.Name.{Name}
 use Rattle.partner.specs.declared.Entry.{Entry}
 use Rattle.partner.specs.Entry.{keys-in}
 use Rattle.partner.specs.Legal as partner
 use Rattle.partner.proofs.Naming.{filled-name}
 use Rattle.partner.proofs.Keeping.{rules}
-use Rattle.writer.specs.declared.Keys.{Keys}
-use Rattle.writer.specs.declared.Vector.{Vector}
+use Rattle.writer.specs.declared.Key.{Key}
 use Rattle.writer.specs.declared.Vector.the-variants.{Absent, Plain, Enciphered}
-use Rattle.writer.specs.Contents.{kd-of, first, second-of, iv-of}
+use Rattle.writer.specs.Contents.{there, kd-of, iv-of}
+use Rattle.messages.specs.declared.Ksm.{Ksm}
 use Rattle.messages.specs.Readings.{unsealed-ksm, ksm-reading, rsi-reading}
 use Rattle.messages.specs.Answers.{writes, answer, length-of, buffer}
 use Rattle.messages.proofs.Claims as messages
@@ -38,7 +40,8 @@ use Rattle.calls.specs.Build.{bad-key, wants-idk1, wants-idk2, asked, kd-for, i
 use Rattle.calls.proofs.Requests.{Formed, Keyed, formed, one, two, not-two, idk1-legal}
 use Rattle.calls.proofs.Written.{sent, sent-written, to-them}
 use Rattle.outcome.specs.Acts.{sound, Ready}
-use Rattle.building.specs.Parts.{name-written, dated, key-for, keys-for, vector-for, rsi-text, fronted}
+use Rattle.building.specs.Parts.{name-written, sealed-for, key-as, key-for, second-as, second-for}
+use Rattle.building.specs.Parts.{vector-for, ksm-for, rsi-text, fronted}
 use Rattle.building.proofs.Judging.{Good}
 
 -- ---- what a writer leaves of a legal reading where there is room
@@ -50,21 +53,22 @@ pub fronts : (r : Reading) (l : Text) → 256 ≤ length l → legal r ≡ true 
 unfolding buffer writes fronted
 fronts r l h k = rw (le-leb 256 (length l) h, k)
 
--- ---- names and dates that are asked for
+-- ---- names that are asked for
 
--- what is not empty where it is asked for
-asked-for : (b : Bool) (w : Text) → (b ≡ true → w ≡ [] → ⊥) → nonempty (cond b w []) ≡ asked b w
-asked-for false w f = refl
-asked-for true [] f = absurd (f refl refl)
-asked-for true (x ∷ w) f = refl
+-- what stands before the first blank of a name as it is written
+pub bare-written : (b : Bool) (n : Name) → bare (name-written b n .bytes) ≡ cond b (bare (n .bytes)) []
+bare-written true n = refl
+bare-written false n = refl
 
--- a name is not empty
-name-there : (w : Text) → is-name w ≡ true → w ≡ [] → ⊥
-name-there w h e = true≢false (sym h ∙ ap is-name e)
-
-date-there : (w : Text) → is-date w ≡ true → w ≡ [] → ⊥
-unfolding is-date
-date-there w h e = true≢false (sym h ∙ ap is-date e)
+-- it is what is asked for, since a name is not empty
+name-is : (b : Bool) (n : Name) → (b ≡ true → is-name (bare (n .bytes)) ≡ true)
+    → nonempty (bare (name-written b n .bytes)) ≡ asked b (bare (n .bytes))
+name-is false n f = refl
+name-is true n f = go (bare (n .bytes)) (f refl)
+  where
+    go : (w : Text) → is-name w ≡ true → nonempty w ≡ some w
+    go [] h = absurd (true≢false (sym h))
+    go (x ∷ w) h = refl
 
 -- ---- the IV
 
@@ -83,86 +87,39 @@ iv-is q = go (conceal (keys-in (outgoing-of q)) (q .iv)) (eqb (q .kind) 1) (eqb 
 
 -- the reading that its writer is given
 abbrev unsealed-for : Text → Entry → Request → ℕ → Reading
-unsealed-for own e q =
-    unsealed-ksm (bare (e .identity .bytes)) own (keys-for e q)
-    (name-written (wants-idk1 (q .first)) (q .first .name .bytes)) (name-written (wants-idk2 (q .first)) (e .name .bytes))
-    (name-written (wants-idk1 (q .second)) (q .second .name .bytes)) (name-written (wants-idk2 (q .second)) (e .name .bytes))
-    (vector-for q) (dated (eqb (q .dated) 1) (q .date .digits)) (e .next)
+unsealed-for own e q = unsealed-ksm (bare (e .identity .bytes)) own (ksm-for e q)
 
 abbrev pub reading-for : Text → Entry → Request → Reading
-reading-for own e q =
-    ksm-reading (bare (e .identity .bytes)) own (keys-for e q)
-    (name-written (wants-idk1 (q .first)) (q .first .name .bytes)) (name-written (wants-idk2 (q .first)) (e .name .bytes))
-    (name-written (wants-idk1 (q .second)) (q .second .name .bytes)) (name-written (wants-idk2 (q .second)) (e .name .bytes))
-    (vector-for q) (dated (eqb (q .dated) 1) (q .date .digits)) (e .next) (mac-key (keys-in (outgoing-of q)))
+reading-for own e q = ksm-reading (bare (e .identity .bytes)) own (ksm-for e q) (mac-key (keys-in (outgoing-of q)))
 
 module _ (own : Text) (e : Entry) (q : Request) (lawful : partner.legal e ≡ true) (f : Formed q) where
-  -- the names of a KD: its own, and the entry's
-  idk1-is : (k : KeyRequest) → bad-key k ≡ false
-      → nonempty (name-written (wants-idk1 k) (k .name .bytes)) ≡ asked (wants-idk1 k) (bare (k .name .bytes))
-  idk1-is k h = go (wants-idk1 k) (idk1-legal k h)
-    where
-      go : (b : Bool) → legal-name (asked b (bare (k .name .bytes))) ≡ true
-          → nonempty (name-written b (k .name .bytes)) ≡ asked b (bare (k .name .bytes))
-      go b h = asked-for b (bare (k .name .bytes)) λ p. name-there (bare (k .name .bytes)) (rw p at h)
-
-  idk2-is : (b : Bool) → nonempty (name-written b (e .name .bytes)) ≡ asked b (bare (e .name .bytes))
-  idk2-is b =
-      asked-for b (bare (e .name .bytes)) λ _.
-      name-there (bare (e .name .bytes)) (filled-name (e .name .bytes) (rules e lawful .name-filled))
-
-  kd-is : (k : KeyRequest) → bad-key k ≡ false
-      → kd-of (key-for e k) (name-written (wants-idk1 k) (k .name .bytes)) (name-written (wants-idk2 k) (e .name .bytes))
-      ≡ kd-for e k
+  kd-is : (k : KeyRequest) → bad-key k ≡ false → kd-of (key-for e k) ≡ kd-for e k
   kd-is k h = λ j. record {
     key = kd-for e k .key;
     p = kd-for e k .p;
-    idk1 = idk1-is k h j;
-    idk2 = idk2-is (wants-idk2 k) j;
+    idk1 = name-is (wants-idk1 k) (k .name)
+        (λ p. sym (ap (λ (b : Bool). legal-name (asked b (bare (k .name .bytes)))) p) ∙ idk1-legal k h) j;
+    idk2 = name-is (wants-idk2 k) (e .top .name) (λ _. filled-name (e .top .name .bytes) (rules e lawful .name-filled)) j;
   }
 
-  first-is : kd-of (first (keys-for e q)) (name-written (wants-idk1 (q .first)) (q .first .name .bytes))
-      (name-written (wants-idk2 (q .first)) (e .name .bytes))
-      ≡ kd-for e (q .first)
-  unfolding keys-for if_then_else_
-  first-is = go (f .keys)
-    where
-      go : Keyed q → kd-of (first (keys-for e q)) (name-written (wants-idk1 (q .first)) (q .first .name .bytes))
-          (name-written (wants-idk2 (q .first)) (e .name .bytes))
-          ≡ kd-for e (q .first)
-      go (one p h) = rw (not-two q p) (kd-is (q .first) h)
-      go (two p r h i) = rw r (kd-is (q .first) h)
+  first-is : Keyed q → kd-of (key-for e (q .first)) ≡ kd-for e (q .first)
+  first-is (one p h) = kd-is (q .first) h
+  first-is (two p r h i) = kd-is (q .first) h
 
-  second-is : second-of (keys-for e q) (name-written (wants-idk1 (q .second)) (q .second .name .bytes))
-      (name-written (wants-idk2 (q .second)) (e .name .bytes))
+  second-is : Keyed q → there (eqb (q .count) 2) (kd-of (second-for e q (key-for e (q .first))))
       ≡ asked (eqb (q .count) 2) (kd-for e (q .second))
-  unfolding keys-for if_then_else_
-  second-is = go (f .keys)
-    where
-      go : Keyed q → second-of (keys-for e q) (name-written (wants-idk1 (q .second)) (q .second .name .bytes))
-          (name-written (wants-idk2 (q .second)) (e .name .bytes))
-          ≡ asked (eqb (q .count) 2) (kd-for e (q .second))
-      go (one p h) = rw (not-two q p)
-      go (two p r h i) = rw r (ap some (kd-is (q .second) i))
-
-  edk-is : nonempty (dated (eqb (q .dated) 1) (q .date .digits)) ≡ asked (eqb (q .dated) 1) (q .date .digits)
-  edk-is = go (eqb (q .dated) 1) (f .date)
-    where
-      go : (b : Bool) → b && not (is-date (q .date .digits)) ≡ false
-          → nonempty (dated b (q .date .digits)) ≡ asked b (q .date .digits)
-      go false h = refl
-      go true h =
-          asked-for true (q .date .digits) λ _.
-          date-there (q .date .digits) (not-false (is-date (q .date .digits)) h)
+  unfolding second-for if_then_else_
+  second-is (one p h) = rw (not-two q p)
+  second-is (two p r h i) = rw r (ap some (kd-is (q .second) i))
 
   unsealed-is : (m : ℕ) → unsealed-for own e q m ≡ to-partner own e (ksm-body e q m)
-  unfolding ksm-body
+  unfolding ksm-body ksm-for
   unsealed-is m = λ j. to-partner own e (ksm (record {
-    kd = first-is j;
-    second = second-is j;
+    kd = first-is (f .keys) j;
+    second = second-is (f .keys) j;
     iv = iv-is q j;
-    edk = edk-is j;
-    ctp = e .next;
+    edk = asked (eqb (q .dated) 1) (q .date .digits);
+    ctp = e .sending .next;
     mac = m;
   }))
 
@@ -195,27 +152,20 @@ ksm-wrote own e q l g =
       fronts r l (g .roomy) (h .0) ∙ ap (λ (w : Text). fronted w l) (sym (h .1)),
     )
 
--- a name by what is asked
-pub name-made : {b d : Bool} {w : Text} (n : Text) → w ≡ name-written b n → b ≡ d → w ≡ name-written d n
-name-made n p q = p ∙ ap (λ (b : Bool). name-written b n) q
-
 -- the parts as they were made are those parts
-module _ (own : Text) (e : Entry) (q : Request) where
-  pub record Made (rcv : Text) (keys : Keys) (i j u w : Text) (v : Vector) (d : Text) (k : ℕ) : Type 0 where
-    pub to : rcv ≡ bare (e .identity .bytes)
-    pub are : keys ≡ keys-for e q
-    pub idk1 : i ≡ name-written (wants-idk1 (q .first)) (q .first .name .bytes)
-    pub idk2 : j ≡ name-written (wants-idk2 (q .first)) (e .name .bytes)
-    pub second-idk1 : u ≡ name-written (wants-idk1 (q .second)) (q .second .name .bytes)
-    pub second-idk2 : w ≡ name-written (wants-idk2 (q .second)) (e .name .bytes)
-    pub vector : v ≡ vector-for q
-    pub edk : d ≡ dated (eqb (q .dated) 1) (q .date .digits)
-    pub key : k ≡ mac-key (keys-in (outgoing-of q))
+pub made : {rcv : Text} {k : Ksm} {key : ℕ} (own : Text) (e : Entry) (q : Request) → rcv ≡ bare (e .identity .bytes)
+    → k ≡ ksm-for e q → key ≡ mac-key (keys-in (outgoing-of q)) → ksm-reading rcv own k key ≡ reading-for own e q
+made own e q a b c = λ t. ksm-reading (a t) own (b t) (c t)
 
-  pub made-reading : {rcv : Text} {keys : Keys} {i j u w : Text} {v : Vector} {d : Text} {k : ℕ}
-      → Made rcv keys i j u w v d k → ksm-reading rcv own keys i j u w v d (e .next) k ≡ reading-for own e q
-  made-reading m = λ t. ksm-reading (m .to t) own (m .are t) (m .idk1 t) (m .idk2 t) (m .second-idk1 t)
-      (m .second-idk2 t) (m .vector t) (m .edk t) (e .next) (m .key t)
+-- the second key as it was made is that one
+pub seconds : (e : Entry) (q : Request) (first : Key) {sealed : Blocks} → sealed ≡ sealed-for e q
+    → second-as e q (sealed .second) first ≡ second-for e q first
+unfolding second-as second-for sealed-for if_then_else_
+seconds e q first {sealed} h = go (eqb (q .count) 2) refl
+  where
+    go : (b : Bool) → eqb (q .count) 2 ≡ b → second-as e q (sealed .second) first ≡ second-for e q first
+    go true p = rw p (ap (key-as e (q .second)) (second-made _ _ h p))
+    go false p = rw p
 
 -- ---- an RSI
 

@@ -1,51 +1,75 @@
 -- What the private functions give: the parts of the messages that are built, as their writers take them.
 -- No belief rests on these: proofs/ ties them to the steps of crate `calls`.
-use mathlib.Core.Path.{_≡_}
 use mathlib.Core.Bool.{Bool, cond}
-use mathlib.Core.List.{[], _++_}
+use mathlib.Core.List.{_++_}
 use mathlib.Core.Option.{none}
-use Prim.Native.Nat.{ℕ, _≤_}
+use Prim.Native.Nat.{ℕ}
 use lib.Dec.{eqb}
 use lib.ListN.{length, drop}
 use Rattle.octets.specs.Text.{Text}
-use Rattle.octets.specs.Part.{bare}
-use Rattle.keying.specs.Keys.{working, seal}
+use Rattle.keying.specs.declared.Blocks.{Blocks}
+use Rattle.keying.specs.Keys.{working, seal, each}
 use Rattle.keying.specs.Iv.{conceal}
 use Rattle.csm.specs.Message.{rsi, print}
 use Rattle.writer.specs.declared.Key.{Key}
-use Rattle.writer.specs.declared.Keys.{Keys}
-use Rattle.writer.specs.declared.Keys.the-variants.{One, Two}
 use Rattle.writer.specs.declared.Vector.{Vector}
 use Rattle.writer.specs.declared.Vector.the-variants.{Absent, Plain, Enciphered}
+use Rattle.messages.specs.declared.Ksm.{Ksm}
+use Rattle.partner.specs.declared.Name.{Name}
 use Rattle.partner.specs.declared.Entry.{Entry}
-use Rattle.partner.specs.Entry.{top-of, keys-in}
+use Rattle.partner.specs.Entry.{blanks, top-of, keys-in}
 use Rattle.calls.specs.declared.KeyRequest.{KeyRequest}
 use Rattle.calls.specs.declared.Request.{Request}
 use Rattle.calls.specs.Words.{if_then_else_}
 use Rattle.calls.specs.Receive.{to-partner}
-use Rattle.calls.specs.Build.{wants-p, outgoing-of}
+use Rattle.calls.specs.Build.{wants-p, wants-idk1, wants-idk2, outgoing-of}
 
--- a name as it is written, and a date: empty where it is not asked for
-abbrev pub name-written : Bool → Text → Text
-name-written b s = cond b (bare s) []
+-- a name as it is written: blanks where it is not asked for
+abbrev pub name-written : Bool → Name → Name
+name-written b n = cond b n (record { bytes = blanks })
 
-abbrev pub dated : Bool → Text → Text
-dated b s = cond b s []
+-- the keys of a request enciphered: under the top key offset by the next send count
+unfoldable pub sealed-for : Entry → Request → Blocks
+sealed-for e q =
+    each (seal (working (top-of (e .top)) (e .sending .next)))
+    (record { first = q .first .key; second = q .second .key; two = eqb (q .count) 2 })
 
--- a key as it is written: enciphered, and its mark
+-- a key as it is written: enciphered so, its mark and its names
+abbrev pub key-as : Entry → KeyRequest → ℕ → Key
+key-as e k sealed = record {
+  sealed = sealed;
+  p = wants-p k;
+  idk1 = name-written (wants-idk1 k) (k .name) .bytes;
+  idk2 = name-written (wants-idk2 k) (e .top .name) .bytes;
+}
+
 abbrev pub key-for : Entry → KeyRequest → Key
-key-for e k = record { sealed = seal (working (top-of e) (e .next)) (k .key); p = wants-p k }
+key-for e k = key-as e k (seal (working (top-of (e .top)) (e .sending .next)) (k .key))
 
--- one key or two
-unfoldable pub keys-for : Entry → Request → Keys
-keys-for e q =
-    if eqb (q .count) 2 then Two (key-for e (q .first)) (key-for e (q .second)) else One (key-for e (q .first))
+-- the second key of two; where there is one, that one
+unfoldable pub second-as : Entry → Request → ℕ → Key → Key
+second-as e q sealed first = if eqb (q .count) 2 then key-as e (q .second) sealed else first
+
+unfoldable pub second-for : Entry → Request → Key → Key
+second-for e q first = if eqb (q .count) 2 then key-for e (q .second) else first
 
 -- the IV: none, its value, or its value enciphered
 unfoldable pub vector-for : Request → Vector
 vector-for q =
     if eqb (q .kind) 1 then Plain (q .iv) else
     if eqb (q .kind) 2 then Enciphered (conceal (keys-in (outgoing-of q)) (q .iv)) else Absent
+
+-- what the KSM of a request says
+unfoldable pub ksm-for : Entry → Request → Ksm
+ksm-for e q = record {
+  first = key-for e (q .first);
+  two = eqb (q .count) 2;
+  second = second-for e q (key-for e (q .first));
+  vector = vector-for q;
+  dated = eqb (q .dated) 1;
+  edk = q .date .digits;
+  ctp = e .sending .next;
+}
 
 -- the text of an RSI
 unfoldable pub rsi-text : Text → Entry → ℕ → Text

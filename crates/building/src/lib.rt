@@ -18,10 +18,11 @@ mod request;
 fn judge(own: &[u8], e: Entry, q: Request, room: usize) -> u32
     ensures { λ r. ⌜ r ≡ first (order.build-ksm (now (own .entry)) e room q) ⌝ }
 {
+    let sending = e.sending;
     let a = octets::then(0, !outcome::is_sound(own, e), 13);
     let b = octets::then(a, room < calls::ROOM, 6);
-    let c = octets::then(b, e.phase == partner::WAITING, 7);
-    let d = octets::then(c, e.next == partner::LIMIT, 8);
+    let c = octets::then(b, sending.phase == partner::WAITING, 7);
+    let d = octets::then(c, sending.next == partner::LIMIT, 8);
     let f = octets::then(d, request::any_not_odd(q), 11);
     octets::then(f, request::malformed(q), 12)
 }
@@ -37,7 +38,7 @@ pub fn build_ksm(own: &[u8], e: Entry, q: Request, reply: &mut [u8]) -> Turned
     }
     let n = message::write(own, e, q, reply);
     Turned {
-        entry: partner::issued(e, message::outgoing(q)),
+        entry: partner::with_sending(e, partner::issued(e.sending, message::outgoing(q))),
         report: outcome::told_nothing(n),
     }
 }
@@ -53,7 +54,7 @@ pub fn build_rsi(own: &[u8], e: Entry, contents: &[u8], reply: &mut [u8]) -> Tur
     if reply.len() < calls::ROOM {
         return outcome::refused(e, 6);
     }
-    let Number::Is { value, length: _ } = fields::service(contents) else {
+    let Number::Is(value) = fields::service(contents) else {
         return outcome::refused(e, 12);
     };
     let n = message::write_rsi(own, e, value, reply);
@@ -67,11 +68,12 @@ pub fn build_rsi(own: &[u8], e: Entry, contents: &[u8], reply: &mut [u8]) -> Tur
 pub fn give_up(e: Entry) -> Turned
     ensures { λ r. ⌜ r ≡ report.turned (building.give-up e) ⌝ }
 {
-    if e.phase != partner::WAITING {
+    let sending = e.sending;
+    if sending.phase != partner::WAITING {
         return outcome::refused(e, 5);
     }
     Turned {
-        entry: partner::given_up(e),
+        entry: partner::with_sending(e, partner::given_up(sending)),
         report: outcome::told_nothing(0),
     }
 }

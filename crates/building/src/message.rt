@@ -9,43 +9,33 @@ ghost use Rattle.building.specs.Order as order;
 ghost use Rattle.building.specs.Parts as parts;
 use calls::KeyRequest;
 use calls::Request;
+use keying::Blocks;
+use messages::Ksm;
 use partner::DataKey;
 use partner::Entry;
 use partner::KeySet;
+use partner::Name;
 use writer::Key;
-use writer::Keys;
 use writer::Vector;
 
-// A name as it is written: bare where it is asked for, else nothing.
-fn written(name: &[u8], asked: bool) -> &[u8]
-    ensures { λ r. ⌜ now r ≡ parts.name-written asked (now (name .entry)) ⌝ }
+// A name where it is asked for, else blanks.
+fn written(name: Name, asked: bool) -> Name
+    ensures { λ r. ⌜ r ≡ parts.name-written asked name ⌝ }
 {
     if asked {
-        return octets::bare(name);
+        return name;
     }
-    let none = 0;
-    &name[..none]
-}
-
-// The digits of a date where it is asked for, else nothing.
-fn dated(digits: &[u8], asked: bool) -> &[u8]
-    ensures { λ r. ⌜ now r ≡ parts.dated asked (now (digits .entry)) ⌝ }
-{
-    if asked {
-        return digits;
-    }
-    let none = 0;
-    &digits[..none]
+    Name { bytes: [b' '; 16] }
 }
 
 // An outgoing key, named by the IDK1 written.
 fn outgoing_key(k: KeyRequest) -> DataKey
     ensures { λ r. ⌜ r ≡ building.outgoing-key k ⌝ }
 {
-    let name = k.name;
+    let name = written(k.name, crate::request::wants_idk1(k));
     DataKey {
         key: k.key,
-        name: partner::name_of(written(&name.bytes, crate::request::wants_idk1(k))),
+        name: partner::name_of(octets::bare(&name.bytes)),
     }
 }
 
@@ -60,26 +50,48 @@ pub(crate) fn outgoing(q: Request) -> KeySet
     partner::two_keys(first, outgoing_key(q.second))
 }
 
-// A key as it is written: under the top key offset by the next send count, marked P where asked for.
-fn sealed_key(e: Entry, k: KeyRequest) -> Key
-    ensures { λ r. ⌜ r ≡ parts.key-for e k ⌝ }
+// The keys of a request enciphered: under the top key offset by the next send count.
+fn sealed_for(e: Entry, q: Request) -> Blocks
+    ensures { λ r. ⌜ r ≡ parts.sealed-for e q ⌝ }
 {
-    let working = keying::working(partner::top_of(e), e.next as u64);
+    let one = q.first;
+    let two = q.second;
+    let sending = e.sending;
+    keying::seal(
+        keying::working(partner::top_of(e.top), sending.next as u64),
+        Blocks {
+            first: one.key,
+            second: two.key,
+            two: q.count == 2,
+        },
+    )
+}
+
+// A key as it is written: enciphered so, marked P and with the names asked for, IDK2 the entry's.
+fn key_as(e: Entry, k: KeyRequest, sealed: u64) -> Key
+    ensures { λ r. ⌜ r ≡ parts.key-as e k sealed ⌝ }
+{
+    let top = e.top;
+    let own = written(k.name, crate::request::wants_idk1(k));
+    let theirs = written(top.name, crate::request::wants_idk2(k));
+    let idk1 = own.bytes;
+    let idk2 = theirs.bytes;
     Key {
-        sealed: keying::seal(working, k.key),
+        sealed,
         p: crate::request::wants_p(k),
+        idk1,
+        idk2,
     }
 }
 
-// The keys as they are written.
-fn sealed_keys(e: Entry, q: Request) -> Keys
-    ensures { λ r. ⌜ r ≡ parts.keys-for e q ⌝ }
+// The second key as it is written; where there is one key only, that key, which is not written again.
+fn second_as(e: Entry, q: Request, sealed: u64, first: Key) -> Key
+    ensures { λ r. ⌜ r ≡ parts.second-as e q sealed first ⌝ }
 {
-    let first = sealed_key(e, q.first);
     if q.count == 2 {
-        return Keys::Two(first, sealed_key(e, q.second));
+        return key_as(e, q.second, sealed);
     }
-    Keys::One(first)
+    first
 }
 
 // The IV: its value, or its value enciphered by the last of the keys.
@@ -95,6 +107,27 @@ fn vector(q: Request) -> Vector
     Vector::Absent
 }
 
+// What the KSM of a request says, with the next send count.
+fn ksm_for(e: Entry, q: Request) -> Ksm
+    ensures { λ r. ⌜ r ≡ parts.ksm-for e q ⌝ }
+{
+    let sending = e.sending;
+    let sealed = sealed_for(e, q);
+    let first = key_as(e, q.first, sealed.first);
+    let second = second_as(e, q, sealed.second, first);
+    let date = q.date;
+    let edk = date.digits;
+    Ksm {
+        first,
+        two: q.count == 2,
+        second,
+        vector: vector(q),
+        dated: q.dated == 1,
+        edk,
+        ctp: sending.next as u64,
+    }
+}
+
 // The KSM of a good request over the front of the reply buffer, with the next send count; its length.
 pub(crate) fn write(own: &[u8], e: Entry, q: Request, reply: &mut [u8]) -> usize
     requires { ⌜ first (order.build-ksm (now own) e (length (now reply)) q) ≡ 0 ⌝ }
@@ -102,25 +135,12 @@ pub(crate) fn write(own: &[u8], e: Entry, q: Request, reply: &mut [u8]) -> usize
     ensures { λ r. ⌜ now (reply .exit) ≡ parts.fronted (building.ksm-text (now (own .entry)) e q) (now (reply .entry)) ⌝ }
 {
     let identity = e.identity;
-    let name = e.name;
-    let first = q.first;
-    let second = q.second;
-    let first_name = first.name;
-    let second_name = second.name;
-    let date = q.date;
     let mac_key = keying::mac_key(partner::data_keys(outgoing(q)));
     messages::length_of(messages::write_ksm(
         reply,
         octets::bare(&identity.bytes),
         own,
-        sealed_keys(e, q),
-        written(&first_name.bytes, crate::request::wants_idk1(first)),
-        written(&name.bytes, crate::request::wants_idk2(first)),
-        written(&second_name.bytes, crate::request::wants_idk1(second)),
-        written(&name.bytes, crate::request::wants_idk2(second)),
-        vector(q),
-        dated(&date.digits, q.dated == 1),
-        e.next as u64,
+        ksm_for(e, q),
         mac_key,
     ))
 }

@@ -16,7 +16,7 @@ use Rattle.csm.specs.Covered.{covered}
 use Rattle.partner.specs.declared.KeySet.{KeySet}
 use Rattle.partner.specs.declared.Entry.{Entry}
 use Rattle.partner.specs.Entry.{limit, filled, keys-in}
-use Rattle.partner.specs.Changes.{sending, receiving as receiving-side, accepted, issued, settled, given-up, failed}
+use Rattle.partner.specs.Changes.{with-receiving, with-sending, accepted, issued, settled, given-up, failed}
 use Rattle.partner.specs.Table.{Table, legal, put}
 use Rattle.calls.specs.declared.Request.{Request}
 use Rattle.calls.specs.Words.{any}
@@ -72,12 +72,12 @@ module _ (us : Text) (e : Entry) (text : Text) (m : Ksm) (good : Passes e text m
       rw (
         good .format,
         eq-eqb (mac (mac-key (keys-in (brought e m))) (covered text)) (m .mac) (sym (good .sealed)),
-        le-ltb (m .ctp) (e .expected) (good .fresh),
+        le-ltb (m .ctp) (e .receiving .expected) (good .fresh),
         ne-eqb (m .ctp) limit (λ i. omega arith),
       )
 
   pub ksm-turn : by-class.receive us e text (ksm m)
-      ≡ done (accepted e (m .ctp) (brought e m)) (rsm-text us e (brought e m)) (keys (iv-of (brought e m) m) (m .edk))
+      ≡ done (with-receiving e (accepted (m .ctp) (brought e m))) (rsm-text us e (brought e m)) (keys (iv-of (brought e m) m) (m .edk))
   unfolding by-class.receive receive-ksm judged
   ksm-turn =
       if-false (any (by-class.foreign e) (by-class.kds m)) _ _ (good .names)
@@ -85,8 +85,8 @@ module _ (us : Text) (e : Entry) (text : Text) (m : Ksm) (good : Passes e text m
       ∙ if-false (not (eqb (faults e (brought e m) text m) 0)) _ _
       (ap not (eq-eqb (faults e (brought e m) text m) 0 no-faults))
 
-accepted-identity : (e : Entry) (n : ℕ) (set : KeySet) → accepted e n set .identity ≡ e .identity
-unfolding accepted receiving-side
+accepted-identity : (e : Entry) (n : ℕ) (set : KeySet) → with-receiving e (accepted n set) .identity ≡ e .identity
+unfolding accepted
 accepted-identity e n set = refl
 
 -- the table with a partner's entry turned
@@ -105,7 +105,7 @@ ksm-accepted t room text id m e l r c k g =
     subst (Taken-in us id e m) (sym p) (record {
       answered = refl;
       returned = refl;
-      entry = turned-after t id e (accepted e (m .ctp) set) h (accepted-identity e (m .ctp) set);
+      entry = turned-after t id e (with-receiving e (accepted (m .ctp) set)) h (accepted-identity e (m .ctp) set);
       message = x .0;
       written = subst (λ (n : Text). Carries us n (rsm (x .0)) (rsm-text us e set)) (h .bare-identity) (x .1);
       sealed = x .2;
@@ -113,67 +113,67 @@ ksm-accepted t room text id m e l r c k g =
 
 -- ---- an RSM
 
-settled-identity : (e : Entry) → settled e .identity ≡ e .identity
-unfolding settled sending
+settled-identity : (e : Entry) → with-sending e (settled (e .sending)) .identity ≡ e .identity
+unfolding settled
 settled-identity e = refl
 
-rsm-turn : (us : Text) (e : Entry) (text : Text) (m : Rsm) → is-waiting e ≡ true
-    → m .mac ≡ mac (mac-key (keys-in (e .outgoing))) (covered text)
-    → by-class.receive us e text (rsm m) ≡ done (settled e) [] confirmation
+rsm-turn : (us : Text) (e : Entry) (text : Text) (m : Rsm) → is-waiting (e .sending) ≡ true
+    → m .mac ≡ mac (mac-key (keys-in (e .sending .outgoing))) (covered text)
+    → by-class.receive us e text (rsm m) ≡ done (with-sending e (settled (e .sending))) [] confirmation
 unfolding by-class.receive receive-rsm bad-mac
 rsm-turn us e text m w s =
-    if-false (not (is-waiting e)) _ _ (ap not w)
-    ∙ if-false (not (eqb (mac (mac-key (keys-in (e .outgoing))) (covered text)) (m .mac))) _ _
-    (ap not (eq-eqb (mac (mac-key (keys-in (e .outgoing))) (covered text)) (m .mac) (sym s)))
+    if-false (not (is-waiting (e .sending))) _ _ (ap not w)
+    ∙ if-false (not (eqb (mac (mac-key (keys-in (e .sending .outgoing))) (covered text)) (m .mac))) _ _
+    (ap not (eq-eqb (mac (mac-key (keys-in (e .sending .outgoing))) (covered text)) (m .mac) (sym s)))
 
 pub rsm-taken : (t : Table) (room : ℕ) (text id : Text) (m : Rsm) (e : Entry) → legal t ≡ true → 256 ≤ room
     → Carries id (bare (t .own)) (rsm m) text → entry-of id t ≡ some e
-    → is-waiting e ≡ true → m .mac ≡ mac (mac-key (keys-in (e .outgoing))) (covered text)
+    → is-waiting (e .sending) ≡ true → m .mac ≡ mac (mac-key (keys-in (e .sending .outgoing))) (covered text)
     → (run t (receive room text) .outcome ≡ success [] confirmation)
-    × (entry-of id (run t (receive room text) .table) ≡ some (settled e))
+    × (entry-of id (run t (receive room text) .table) ≡ some (with-sending e (settled (e .sending))))
 rsm-taken t room text id m e l r c k w s =
     let i = rsm-turn (bare (t .own)) e text m w s in
     let p = receive-turns t l room r id e k text (rsm m) c ∙ ap (put-back t id) i in
-    subst (λ (a : After). (a .outcome ≡ success [] confirmation) × (entry-of id (a .table) ≡ some (settled e))) (sym p)
-    (refl, turned-after t id e (settled e) (entry-held t id e k) (settled-identity e))
+    subst (λ (a : After). (a .outcome ≡ success [] confirmation) × (entry-of id (a .table) ≡ some (with-sending e (settled (e .sending))))) (sym p)
+    (refl, turned-after t id e (with-sending e (settled (e .sending))) (entry-held t id e k) (settled-identity e))
 
 -- ---- an ESM
 
-broken-identity : (e : Entry) (m : Esm) → after-esm e m .identity ≡ e .identity
-unfolding given-up failed settled accepted issued sending receiving-side
+broken-identity : (e : Entry) (m : Esm) → with-sending e (after-esm (e .sending) m) .identity ≡ e .identity
+unfolding given-up failed settled accepted issued
 broken-identity e m = go (m .ctp) refl
   where
-    go : (o : Option ℕ) → m .ctp ≡ o → after-esm e m .identity ≡ e .identity
+    go : (o : Option ℕ) → m .ctp ≡ o → with-sending e (after-esm (e .sending) m) .identity ≡ e .identity
     go none p = rw p
     go (some x) p = rw p
 
-esm-turn : (us : Text) (e : Entry) (text : Text) (m : Esm) → is-waiting e ≡ true
-    → by-class.receive us e text (esm m) ≡ done (after-esm e m) [] (failure (m .erf))
+esm-turn : (us : Text) (e : Entry) (text : Text) (m : Esm) → is-waiting (e .sending) ≡ true
+    → by-class.receive us e text (esm m) ≡ done (with-sending e (after-esm (e .sending) m)) [] (failure (m .erf))
 unfolding by-class.receive receive-esm
-esm-turn us e text m w = if-false (not (is-waiting e)) _ _ (ap not w)
+esm-turn us e text m w = if-false (not (is-waiting (e .sending))) _ _ (ap not w)
 
 pub esm-breaking : (t : Table) (room : ℕ) (text id : Text) (m : Esm) (e : Entry) → legal t ≡ true → 256 ≤ room
-    → Carries id (bare (t .own)) (esm m) text → entry-of id t ≡ some e → is-waiting e ≡ true
+    → Carries id (bare (t .own)) (esm m) text → entry-of id t ≡ some e → is-waiting (e .sending) ≡ true
     → (run t (receive room text) .outcome ≡ success [] (failure (m .erf)))
-    × (entry-of id (run t (receive room text) .table) ≡ some (after-esm e m))
+    × (entry-of id (run t (receive room text) .table) ≡ some (with-sending e (after-esm (e .sending) m)))
 esm-breaking t room text id m e l r c k w =
     let p = receive-turns t l room r id e k text (esm m) c ∙ ap (put-back t id) (esm-turn (bare (t .own)) e text m w) in
     subst (λ (a : After). (a .outcome ≡ success [] (failure (m .erf)))
-    × (entry-of id (a .table) ≡ some (after-esm e m))) (sym p) (refl, turned-after t id e (after-esm e m) (entry-held t id e k) (broken-identity e m))
+    × (entry-of id (a .table) ≡ some (with-sending e (after-esm (e .sending) m)))) (sym p) (refl, turned-after t id e (with-sending e (after-esm (e .sending) m)) (entry-held t id e k) (broken-identity e m))
 
 -- ---- a request
 
-issued-identity : (e : Entry) (set : KeySet) → issued e set .identity ≡ e .identity
-unfolding issued sending
+issued-identity : (e : Entry) (set : KeySet) → with-sending e (issued (e .sending) set) .identity ≡ e .identity
+unfolding issued
 issued-identity e set = refl
 
 build-turn : (us : Text) (e : Entry) (q : Request) → Fit e q
-    → building.build-ksm us e q ≡ done (issued e (outgoing-of q)) (ksm-text us e q) nothing
+    → building.build-ksm us e q ≡ done (with-sending e (issued (e .sending) (outgoing-of q))) (ksm-text us e q) nothing
 unfolding building.build-ksm
 build-turn us e q g =
     let k = g .not-last in
-    if-false (is-waiting e) _ _ (g .free)
-    ∙ if-false (eqb (e .next) limit) _ _ (ne-eqb (e .next) limit (λ i. omega arith))
+    if-false (is-waiting (e .sending)) _ _ (g .free)
+    ∙ if-false (eqb (e .sending .next) limit) _ _ (ne-eqb (e .sending .next) limit (λ i. omega arith))
     ∙ if-false (any building.not-odd (building.used q)) _ _ (g .parity)
     ∙ if-false (building.malformed q) _ _ (g .formed)
 
@@ -182,7 +182,7 @@ pub request-built : (t : Table) (room : ℕ) (id : Text) (q : Request) (e : Entr
     → (run t (about id (build-ksm room q))
     ≡ record {
       outcome = success (ksm-text (bare (t .own)) e q) nothing;
-      table = holding t (put (filled id) (issued e (outgoing-of q)) (t .slots));
+      table = holding t (put (filled id) (with-sending e (issued (e .sending) (outgoing-of q))) (t .slots));
     })
 request-built t room id q e l r k g =
     build-turns t l room r id e k q ∙ ap (put-back t id) (build-turn (bare (t .own)) e q g)

@@ -209,7 +209,7 @@ formed-request q h =
 pub fit : (e : Entry) (q : Request) → Good-request e q → Fit e q
 unfolding is-waiting
 fit e q h = record {
-  free = ne-eqb (e .phase) waiting (h .free);
+  free = ne-eqb (e .sending .phase) waiting (h .free);
   not-last = h .not-last;
   parity = none-even q (h .parity);
   formed = formed-request q (h .formed);
@@ -218,7 +218,7 @@ fit e q h = record {
 pub good : (e : Entry) (q : Request) → Fit e q → Good-request e q
 unfolding is-waiting
 good e q h = record {
-  free = eqb-false (e .phase) waiting (h .free);
+  free = eqb-false (e .sending .phase) waiting (h .free);
   not-last = h .not-last;
   parity = odd-where-marked q (h .parity);
   formed = request-formed q (h .formed);

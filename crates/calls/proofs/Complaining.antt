@@ -176,9 +176,9 @@ counts-told us id w x y a false h = h
 
 faults-turn : (us : Text) (e : Entry) (text : Text) (m : Ksm) (f s c : Bool) → any (foreign e) (kds m) ≡ false
     → any (uneven e m) (kds m) ≡ false → bad-format (brought e m) m ≡ not f
-    → bad-mac (brought e m) text (m .mac) ≡ not s → bad-count (e .expected) (m .ctp) ≡ not c
+    → bad-mac (brought e m) text (m .mac) ≡ not s → bad-count (e .receiving .expected) (m .ctp) ≡ not c
     → not (eqb (letters f s c) 0) ≡ true
-    → by-class.receive us e text (ksm m) ≡ error us e (letters f s c) (counts c (e .expected) (m .ctp))
+    → by-class.receive us e text (ksm m) ≡ error us e (letters f s c) (counts c (e .receiving .expected) (m .ctp))
 unfolding by-class.receive receive-ksm judged faults
 faults-turn us e text m f s c n u p q r h =
     if-false (any (foreign e) (kds m)) _ _ n ∙ if-false (any (uneven e m) (kds m)) _ _ u
@@ -188,9 +188,9 @@ faults-turn us e text m f s c n u p q r h =
 module _ (us : Text) (e : Entry) (text : Text) (m : Ksm) (set : KeySet) (f s c : Bool) (l : within 1 limit (m .ctp) ≡ true)
     (n : (k : Kd) → Kd-of m k → Ours e k) (u : (k : Kd) → Kd-of m k → Even-only-unmarked e m k) (b : Brings e m set)
     (jf : Judged (Formed-ksm set m) f) (js : Judged (Sealed set text (m .mac)) s)
-    (jc : Judged (In-turn (e .expected) (m .ctp)) c) where
+    (jc : Judged (In-turn (e .receiving .expected) (m .ctp)) c) where
   pub judged-turn : f && s && c ≡ false
-      → by-class.receive us e text (ksm m) ≡ error us e (letters f s c) (counts c (e .expected) (m .ctp))
+      → by-class.receive us e text (ksm m) ≡ error us e (letters f s c) (counts c (e .receiving .expected) (m .ctp))
   judged-turn h =
       let i = brings-only e m set b in
       let p : bad-format (brought e m) m ≡ not f =
@@ -199,46 +199,46 @@ module _ (us : Text) (e : Entry) (text : Text) (m : Ksm) (set : KeySet) (f s c :
       let q : bad-mac (brought e m) text (m .mac) ≡ not s =
       subst (λ (k : KeySet). bad-mac k text (m .mac) ≡ not s) i
       (judged-by (bad-mac set text (m .mac)) s (is-sealed set text (m .mac)) (sealed-is set text (m .mac)) js) in
-      let r = judged-by (bad-count (e .expected) (m .ctp)) c (in-turn (e .expected) (m .ctp) l)
-      (turn-in (e .expected) (m .ctp)) jc in
+      let r = judged-by (bad-count (e .receiving .expected) (m .ctp)) c (in-turn (e .receiving .expected) (m .ctp) l)
+      (turn-in (e .receiving .expected) (m .ctp)) jc in
       faults-turn us e text m f s c (no-foreign e m n) (of-all (uneven e m) m (λ k j. not-uneven e m k (u k j))) p q r
       (some-letter f s c h)
 
 pub faults-told : (t : Table) (room : ℕ) (text id : Text) (m : Ksm) (e : Entry) (set : KeySet) (f s c : Bool)
     → Comes t room id e → Carries id (bare (t .own)) (ksm m) text
     → ((k : Kd) → Kd-of m k → Ours e k) → ((k : Kd) → Kd-of m k → Even-only-unmarked e m k) → Brings e m set
-    → Judged (Formed-ksm set m) f → Judged (Sealed set text (m .mac)) s → Judged (In-turn (e .expected) (m .ctp)) c
+    → Judged (Formed-ksm set m) f → Judged (Sealed set text (m .mac)) s → Judged (In-turn (e .receiving .expected) (m .ctp)) c
     → f && s && c ≡ false
     → Tells (bare (t .own)) id (unless f (ascii "F") ++ (unless s (ascii "M") ++ unless c (ascii "P")))
-    (told-unless c (e .expected)) (told-unless c (m .ctp)) (run t (receive room text) .outcome)
+    (told-unless c (e .receiving .expected)) (told-unless c (m .ctp)) (run t (receive room text) .outcome)
 faults-told t room text id m e set f s c g x n u b jf js jc h =
     let us = bare (t .own) in
     let l = ksm-parts m (reading-parts _ (read-back text _ x .0) .body) .count in
     let v = rules e (held-legal t id e (g .lawful) (entry-held t id e (g .known))) .expected-right in
-    let z = told t room text id (ksm m) e (letters f s c) (counts c (e .expected) (m .ctp)) g x
+    let z = told t room text id (ksm m) e (letters f s c) (counts c (e .receiving .expected) (m .ctp)) g x
     (judged-turn us e text m set f s c l n u b jf js jc h)
-    (letters-legal (not f) (not s) (not c) (e .expected) (m .ctp) v l (some-letter f s c h)) in
-    counts-told us id _ (e .expected) (m .ctp) (run t (receive room text)) c
-    (subst (λ (w : Text). Tells us id w (first-count (counts c (e .expected) (m .ctp)))
-    (second-count (counts c (e .expected) (m .ctp))) (run t (receive room text) .outcome)) (spelled f s c) z)
+    (letters-legal (not f) (not s) (not c) (e .receiving .expected) (m .ctp) v l (some-letter f s c h)) in
+    counts-told us id _ (e .receiving .expected) (m .ctp) (run t (receive room text)) c
+    (subst (λ (w : Text). Tells us id w (first-count (counts c (e .receiving .expected) (m .ctp)))
+    (second-count (counts c (e .receiving .expected) (m .ctp))) (run t (receive room text) .outcome)) (spelled f s c) z)
 
 -- ---- an RSM whose MAC differs: M; an option: O
 
-bad-rsm-turn : (us : Text) (e : Entry) (text : Text) (m : Rsm) → e .phase ≡ waiting
-    → bad-mac (e .outgoing) text (m .mac) ≡ true → by-class.receive us e text (rsm m) ≡ error us e M none
+bad-rsm-turn : (us : Text) (e : Entry) (text : Text) (m : Rsm) → e .sending .phase ≡ waiting
+    → bad-mac (e .sending .outgoing) text (m .mac) ≡ true → by-class.receive us e text (rsm m) ≡ error us e M none
 unfolding by-class.receive receive-rsm is-waiting
 bad-rsm-turn us e text m w h =
-    if-false (not (eqb (e .phase) waiting)) _ _ (ap not (eq-eqb (e .phase) waiting w))
-    ∙ if-true (bad-mac (e .outgoing) text (m .mac)) _ _ h
+    if-false (not (eqb (e .sending .phase) waiting)) _ _ (ap not (eq-eqb (e .sending .phase) waiting w))
+    ∙ if-true (bad-mac (e .sending .outgoing) text (m .mac)) _ _ h
 
 pub bad-rsm : (t : Table) (room : ℕ) (text id : Text) (m : Rsm) (e : Entry) → Comes t room id e
-    → Carries id (bare (t .own)) (rsm m) text → e .phase ≡ waiting → (Sealed (e .outgoing) text (m .mac) → ⊥)
+    → Carries id (bare (t .own)) (rsm m) text → e .sending .phase ≡ waiting → (Sealed (e .sending .outgoing) text (m .mac) → ⊥)
     → Tells (bare (t .own)) id (ascii "M") none none (run t (receive room text) .outcome)
 bad-rsm t room text id m e g c w n =
     told t room text id (rsm m) e M none g c
     (bad-rsm-turn (bare (t .own)) e text m w
-    (judged-by (bad-mac (e .outgoing) text (m .mac)) false (is-sealed (e .outgoing) text (m .mac))
-    (sealed-is (e .outgoing) text (m .mac)) (fails n)))
+    (judged-by (bad-mac (e .sending .outgoing) text (m .mac)) false (is-sealed (e .sending .outgoing) text (m .mac))
+    (sealed-is (e .sending .outgoing) text (m .mac)) (fails n)))
     (esm-legal M refl refl)
 
 option-turn : (us : Text) (e : Entry) (text : Text) (c : Class) (w : Text)

@@ -26,7 +26,7 @@ use Rattle.partner.specs.declared.Name.{Name}
 use Rattle.partner.specs.declared.KeySet.{KeySet}
 use Rattle.partner.specs.declared.Entry.{Entry}
 use Rattle.partner.specs.Entry.{name-of, top-of, keys-in, one-key, two-keys}
-use Rattle.partner.specs.Changes.{sending, issued}
+use Rattle.partner.specs.Changes.{issued}
 use Rattle.partner.specs.Table.{Table}
 use Rattle.calls.specs.declared.KeyRequest.{KeyRequest}
 use Rattle.calls.specs.declared.Request.{Request}
@@ -62,12 +62,12 @@ two-sent : (us : Text) (e : Entry) (q : Request) → eqb (q .count) 2 ≡ true
 unfolding sent
 two-sent us e q h = rw h
 
-module _ (us : Text) (e f : Entry) (q : Request) (same-top : top-of e ≡ top-of f) where
+module _ (us : Text) (e f : Entry) (q : Request) (same-top : top-of (e .top) ≡ top-of (f .top)) where
   key-back : (k : KeyRequest) → k .key < 2 ^ 64 → deciphered f (sent us e q) (kd-for e k) ≡ k .key
   unfolding sent
   key-back k h =
-      ap (λ (t : Top). unseal (working t (e .next)) (seal (working (top-of e) (e .next)) (k .key))) (sym same-top)
-      ∙ unseal-seal (working (top-of e) (e .next)) (k .key) h
+      ap (λ (t : Top). unseal (working t (e .sending .next)) (seal (working (top-of (e .top)) (e .sending .next)) (k .key))) (sym same-top)
+      ∙ unseal-seal (working (top-of (e .top)) (e .sending .next)) (k .key) h
 
   data-key-back : (k : KeyRequest) → k .key < 2 ^ 64 → brought-key f (sent us e q) (kd-for e k) ≡ outgoing-key k
   data-key-back k h = λ j. record {
@@ -96,15 +96,15 @@ module _ (us : Text) (e f : Entry) (q : Request) (same-top : top-of e ≡ top-of
 
   -- ---- no foreign name, no uneven key
 
-  in-force : (b : Bool) → e .name ≡ f .name
-      → not (same (elim (asked b (bare (e .name .bytes))) as (λ o. Text) [ none ↦ bare (f .name .bytes) | some w ↦ w ])
-      (bare (f .name .bytes))) ≡ false
+  in-force : (b : Bool) → e .top .name ≡ f .top .name
+      → not (same (elim (asked b (bare (e .top .name .bytes))) as (λ o. Text) [ none ↦ bare (f .top .name .bytes) | some w ↦ w ])
+      (bare (f .top .name .bytes))) ≡ false
   in-force true n =
-      ap (λ (x : Name). not (same (bare (x .bytes)) (bare (f .name .bytes)))) n
-      ∙ ap not (same-refl (bare (f .name .bytes)))
-  in-force false n = ap not (same-refl (bare (f .name .bytes)))
+      ap (λ (x : Name). not (same (bare (x .bytes)) (bare (f .top .name .bytes)))) n
+      ∙ ap not (same-refl (bare (f .top .name .bytes)))
+  in-force false n = ap not (same-refl (bare (f .top .name .bytes)))
 
-  pub no-foreign : Keyed q → e .name ≡ f .name → any (foreign f) (kds (sent us e q)) ≡ false
+  pub no-foreign : Keyed q → e .top .name ≡ f .top .name → any (foreign f) (kds (sent us e q)) ≡ false
   unfolding any foreign
   no-foreign (one p b) n =
       ap (any (foreign f)) (one-sent us e q (not-two q p))
@@ -198,12 +198,12 @@ date-arrives us e q = refl
 
 -- ---- what was built is good
 
-pub sent-count : (us : Text) (e : Entry) (q : Request) → sent us e q .ctp ≡ e .next
+pub sent-count : (us : Text) (e : Entry) (q : Request) → sent us e q .ctp ≡ e .sending .next
 unfolding sent
 sent-count us e q = refl
 
 module _ (us : Text) (e f : Entry) (q : Request) (good : Fit e q) (sized : Sized q) where
-  pub sent-good : (text : Text) → top-of e ≡ top-of f → e .name ≡ f .name → f .expected ≤ e .next
+  pub sent-good : (text : Text) → top-of (e .top) ≡ top-of (f .top) → e .top .name ≡ f .top .name → f .receiving .expected ≤ e .sending .next
       → sent us e q .mac ≡ mac (mac-key (keys-in (outgoing-of q))) (covered text) → Passes f text (sent us e q)
   sent-good text t n x s =
       let d = formed q (good .formed) in
@@ -219,12 +219,12 @@ module _ (us : Text) (e f : Entry) (q : Request) (good : Fit e q) (sized : Sized
 
 -- ---- the exchange
 
-pub issued-waits : (e : Entry) (set : KeySet) → is-waiting (issued e set) ≡ true
-unfolding issued sending is-waiting
+pub issued-waits : (e : Entry) (set : KeySet) → is-waiting (issued (e .sending) set) ≡ true
+unfolding issued is-waiting
 issued-waits e set = refl
 
-pub issued-outgoing : (e : Entry) (set : KeySet) → issued e set .outgoing ≡ set
-unfolding issued sending
+pub issued-outgoing : (e : Entry) (set : KeySet) → issued (e .sending) set .outgoing ≡ set
+unfolding issued
 issued-outgoing e set = refl
 
 module _ (t u : Table) (e f : Entry) (q : Request) (room : ℕ) (p : Partners t u e f) (good : Fit e q)

@@ -94,14 +94,14 @@ ksm-only us e text m l =
     by-case (λ (r : Turn). r .outcome .answer ≡ 0 → Passes e text m) _ _ _ (λ _. complaint-not-done) λ f.
     λ z.
     let h = none-holds (bad-format (brought e m) m) (bad-mac (brought e m) text (m .mac))
-    (bad-count (e .expected) (m .ctp)) (not-false _ f) in
+    (bad-count (e .receiving .expected) (m .ctp)) (not-false _ f) in
     let c = or-split _ _ (h .2) in
     record {
       names = n;
       parity = p;
       format = h .0;
       sealed = sym (eqb-true _ _ (not-false _ (h .1)));
-      fresh = ltb-false (m .ctp) (e .expected) (c .0);
+      fresh = ltb-false (m .ctp) (e .receiving .expected) (c .0);
       not-last = short-of-last (m .ctp) (ksm-parts m l .count) (c .1);
     }
 
@@ -115,7 +115,7 @@ accepted-is-good t room text id m e c k =
 -- ---- an RSM
 
 rsm-only : (us : Text) (e : Entry) (text : Text) (m : Rsm) → by-class.receive us e text (rsm m) .outcome .answer ≡ 0
-    → (is-waiting e ≡ true) × (m .mac ≡ mac (mac-key (keys-in (e .outgoing))) (covered text))
+    → (is-waiting (e .sending) ≡ true) × (m .mac ≡ mac (mac-key (keys-in (e .sending .outgoing))) (covered text))
 unfolding by-class.receive receive-rsm bad-mac
 rsm-only us e text m =
     by-case (λ (r : Turn). r .outcome .answer ≡ 0 → Good-rsm) _ _ _ (λ _. not-done 5 refl) λ w.
@@ -123,12 +123,12 @@ rsm-only us e text m =
     λ z. (not-false _ w, sym (eqb-true _ _ (not-false _ b)))
   where
     Good-rsm : Type 0
-    Good-rsm = (is-waiting e ≡ true) × (m .mac ≡ mac (mac-key (keys-in (e .outgoing))) (covered text))
+    Good-rsm = (is-waiting (e .sending) ≡ true) × (m .mac ≡ mac (mac-key (keys-in (e .sending .outgoing))) (covered text))
 
 pub taken-is-good : (t : Table) (room : ℕ) (text id : Text) (m : Rsm) (e : Entry)
     → Carries id (bare (t .own)) (rsm m) text → entry-of id t ≡ some e
     → run t (receive room text) .outcome .answer ≡ 0
-    → (is-waiting e ≡ true) × (m .mac ≡ mac (mac-key (keys-in (e .outgoing))) (covered text))
+    → (is-waiting (e .sending) ≡ true) × (m .mac ≡ mac (mac-key (keys-in (e .sending .outgoing))) (covered text))
 taken-is-good t room text id m e c k =
     receive-only t id e k _ room text (rsm m) c (λ _. rsm-only (bare (t .own)) e text m)
 
@@ -142,7 +142,7 @@ build-only-good us e q l =
     by-case (λ (r : Turn). r .outcome .answer ≡ 0 → Fit e q) _ _ _ (λ _. not-done 8 refl) λ n.
     by-case (λ (r : Turn). r .outcome .answer ≡ 0 → Fit e q) _ _ _ (λ _. not-done 11 refl) λ p.
     by-case (λ (r : Turn). r .outcome .answer ≡ 0 → Fit e q) _ _ _ (λ _. not-done 12 refl) λ f.
-    λ z. record { free = w; not-last = short-of-last (e .next) (rules e l .next-right) n; parity = p; formed = f }
+    λ z. record { free = w; not-last = short-of-last (e .sending .next) (rules e l .next-right) n; parity = p; formed = f }
 
 pub built-is-good : (t : Table) (room : ℕ) (id : Text) (q : Request) (e : Entry) → entry-of id t ≡ some e
     → run t (about id (build-ksm room q)) .outcome .answer ≡ 0 → Fit e q

@@ -130,16 +130,16 @@ module _ (t : Table) (id : Text) (R : Text → Type 0) where
   -- ---- the partner's entry afterwards
 
   pub counts : (a : After) (e f : Entry) → Effect t id R a → entry-of id t ≡ some e → entry-of id (a .table) ≡ some f
-      → (e .next ≤ f .next) × (e .expected ≤ f .expected)
+      → (e .sending .next ≤ f .sending .next) × (e .receiving .expected ≤ f .receiving .expected)
   counts a e f (refuses n k) p q =
       let i : e ≡ f = some-inj (sym p ∙ q) in
-      subst (λ (x : Entry). (e .next ≤ x .next) × (e .expected ≤ x .expected)) i (omega arith, omega arith)
+      subst (λ (x : Entry). (e .sending .next ≤ x .sending .next) × (e .receiving .expected ≤ x .receiving .expected)) i (omega arith, omega arith)
   counts a e f (turns g r l h d) p q =
       let i : g ≡ e = some-inj (sym (h .found) ∙ entry-held t id e p .found) in
       let k = change-identity g (r .entry) (does-change r d) in
       let j : r .entry ≡ f = some-inj (sym (turned-after t id g (r .entry) h k) ∙ q) in
-      subst (λ (x : Entry). (x .next ≤ f .next) × (x .expected ≤ f .expected)) i
-      (subst (λ (x : Entry). (g .next ≤ x .next) × (g .expected ≤ x .expected)) j
+      subst (λ (x : Entry). (x .sending .next ≤ f .sending .next) × (x .receiving .expected ≤ f .receiving .expected)) i
+      (subst (λ (x : Entry). (g .sending .next ≤ x .sending .next) × (g .receiving .expected ≤ x .receiving .expected)) j
       (change-counts g (r .entry) (does-change r d)))
   counts a e f (loads x m l b i g n r) p q =
       let h = entry-held t id e p in

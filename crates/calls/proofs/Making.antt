@@ -84,7 +84,7 @@ key-written e r = record {
   key = refl;
   p = is-marked (r .flags % 2) (bit (r .flags));
   idk1 = is-asked (bare (r .name .bytes)) (r .flags / 2 % 2) (bit (r .flags / 2));
-  idk2 = is-asked (bare (e .name .bytes)) (r .flags / 4 % 2) (bit (r .flags / 4));
+  idk2 = is-asked (bare (e .top .name .bytes)) (r .flags / 4 % 2) (bit (r .flags / 4));
 }
 
 iv-written : (q : Request) → q .kind ≤ 2 → Writes-iv q (outgoing-of q) (q .kind) (iv-for q)

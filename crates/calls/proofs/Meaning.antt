@@ -61,16 +61,16 @@ of-one f m k i h = go (any f (kds m)) refl
 pub ours : (e : Entry) (k : Kd) → foreign e k ≡ false → Ours e k
 unfolding foreign
 ours e k h n p =
-    let i : not (same n (bare (e .name .bytes))) ≡ false = rw p at h in
-    same-true n (bare (e .name .bytes)) (not-false (same n (bare (e .name .bytes))) i)
+    let i : not (same n (bare (e .top .name .bytes))) ≡ false = rw p at h in
+    same-true n (bare (e .top .name .bytes)) (not-false (same n (bare (e .top .name .bytes))) i)
 
 pub not-foreign : (e : Entry) (k : Kd) → Ours e k → foreign e k ≡ false
 unfolding foreign
 not-foreign e k h = go (k .idk2) refl
   where
     go : (o : Option Text) → k .idk2 ≡ o → foreign e k ≡ false
-    go none p = rw (p, same-refl (bare (e .name .bytes)))
-    go (some n) p = rw (p, h n p, same-refl (bare (e .name .bytes)))
+    go none p = rw (p, same-refl (bare (e .top .name .bytes)))
+    go (some n) p = rw (p, h n p, same-refl (bare (e .top .name .bytes)))
 
 pub even-unmarked : (e : Entry) (m : Ksm) (k : Kd) → uneven e m k ≡ false → Even-only-unmarked e m k
 unfolding uneven

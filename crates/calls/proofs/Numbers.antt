@@ -9,7 +9,7 @@ use Rattle.csm.specs.Message.{Ksm, ksm}
 use Rattle.partner.specs.declared.KeySet.{KeySet}
 use Rattle.partner.specs.declared.Entry.{Entry}
 use Rattle.partner.specs.Entry.{limit}
-use Rattle.partner.specs.Changes.{receiving as receiving-side, accepted}
+use Rattle.partner.specs.Changes.{with-receiving, accepted}
 use Rattle.calls.specs.Outcome.{done, keys}
 use Rattle.calls.specs.Receive as by-class
 use Rattle.calls.specs.Receive.{receive-ksm, brought, rsm-text, iv-of}
@@ -25,25 +25,25 @@ by-class-ksm : (own : Text) (e : Entry) (text : Text) (m : Ksm)
 unfolding by-class.receive
 by-class-ksm own e text m = refl
 
-expects-one-more : (e : Entry) (n : ℕ) (set : KeySet) → n < limit → accepted e n set .expected ≡ n + 1
-unfolding accepted receiving-side
+expects-one-more : (e : Entry) (n : ℕ) (set : KeySet) → n < limit → accepted n set .expected ≡ n + 1
+unfolding accepted
 expects-one-more e n set l = risen-by-one n l
 
 leaves-one-more : (expected count : ℕ) → expected ≤ count → count < limit → Comes-to expected count (Leaves (count + 1))
 leaves-one-more expected count x y own e text m p q g =
-    let t : In-turn (e .expected) (m .ctp) = record { fresh = omega (arith, x, p, q); not-last = omega (arith, y, q) } in
+    let t : In-turn (e .receiving .expected) (m .ctp) = record { fresh = omega (arith, x, p, q); not-last = omega (arith, y, q) } in
     subst (Leaves (count + 1))
     (sym (ksm-turn own e text m (passes e text m (record { rest = g; count = t }))) ∙ by-class-ksm own e text m)
     (result e (m .ctp) (brought e m) (t .not-last) q)
   where
     result : (e : Entry) (n : ℕ) (set : KeySet) → n < limit → n ≡ count
-        → Leaves (count + 1) (done (accepted e n set) (rsm-text own e set) (keys (iv-of set m) (m .edk)))
+        → Leaves (count + 1) (done (with-receiving e (accepted n set)) (rsm-text own e set) (keys (iv-of set m) (m .edk)))
     result e n set l q = record { accepted = refl; expects = expects-one-more e n set l ∙ ap (λ (k : ℕ). k + 1) q }
 
 out-of-turn : (expected count : ℕ) → within 1 limit count ≡ true → (In-turn expected count → ⊥)
     → Comes-to expected count (Is-P expected)
 out-of-turn expected count l n own e text m p q g =
-    let c : In-turn (e .expected) (m .ctp) → ⊥ = λ i. n (subst (λ (k : ℕ). In-turn expected k) q
+    let c : In-turn (e .receiving .expected) (m .ctp) → ⊥ = λ i. n (subst (λ (k : ℕ). In-turn expected k) q
     (subst (λ (k : ℕ). In-turn k (m .ctp)) p i)) in
     subst (Is-P expected)
     (sym (judged-turn own e text m (g .set) true true false (ap (within 1 limit) q ∙ l) (g .names) (g .parity)

@@ -64,16 +64,16 @@ class-first own e text (ksm m) =
     (asks (any (uneven e m) (kds m)) 4 _ _ refl refl
     (asks (not (eqb (faults e (brought e m) text m) 0)) 4 _ _ refl refl (done refl)))
 class-first own e text (rsm m) =
-    asks (not (is-waiting e)) 5 _ _ refl refl (asks (bad-mac (e .outgoing) text (m .mac)) 4 _ _ refl refl (done refl))
-class-first own e text (esm m) = asks (not (is-waiting e)) 5 _ _ refl refl (done refl)
+    asks (not (is-waiting (e .sending))) 5 _ _ refl refl (asks (bad-mac (e .sending .outgoing) text (m .mac)) 4 _ _ refl refl (done refl))
+class-first own e text (esm m) = asks (not (is-waiting (e .sending))) 5 _ _ refl refl (done refl)
 class-first own e text (option c w) = record { is = refl }
 
 key-message-first : (own : Text) (e : Entry) (room : ℕ) (q : Request)
     → Walks of-turn (building.build-ksm own e q) (by-act (build-ksm room q) e)
 unfolding building.build-ksm
 key-message-first own e room q =
-    asks (is-waiting e) 7 _ _ refl refl
-    (asks (eqb (e .next) limit) 8 _ _ refl refl
+    asks (is-waiting (e .sending)) 7 _ _ refl refl
+    (asks (eqb (e .sending .next) limit) 8 _ _ refl refl
     (asks (any not-odd (used q)) 11 _ _ refl refl (asks (malformed q) 12 _ _ refl refl (done refl))))
 
 service-first : (own : Text) (e : Entry) (room : ℕ) (contents : Text)
@@ -90,7 +90,7 @@ act-first : (own : Text) (a : Act) (e : Entry) → Walks of-turn (acting own a e
 unfolding building.give-up
 act-first own (build-ksm room q) e = key-message-first own e room q
 act-first own (build-rsi room contents) e = service-first own e room contents
-act-first own give-up e = asks (not (is-waiting e)) 5 _ _ refl refl (done refl)
+act-first own give-up e = asks (not (is-waiting (e .sending))) 5 _ _ refl refl (done refl)
 act-first own remove e = done refl
 act-first own ask e = done refl
 

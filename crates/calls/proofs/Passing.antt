@@ -10,7 +10,7 @@ use Rattle.csm.specs.Covered.{covered}
 use Rattle.csm.specs.Message.{Ksm, Rsm, rsm}
 use Rattle.partner.specs.declared.Entry.{Entry}
 use Rattle.partner.specs.Entry.{limit, keys-in}
-use Rattle.partner.specs.Changes.{accepted}
+use Rattle.partner.specs.Changes.{with-receiving, accepted}
 use Rattle.calls.specs.declared.Request.{Request}
 use Rattle.calls.specs.Words.{any}
 use Rattle.calls.specs.Outcome.{keys}
@@ -25,21 +25,21 @@ pub record Passes (e : Entry) (text : Text) (m : Ksm) : Type 0 where
   pub parity : any (uneven e m) (kds m) ≡ false
   pub format : bad-format (brought e m) m ≡ false
   pub sealed : m .mac ≡ mac (mac-key (keys-in (brought e m))) (covered text)
-  pub fresh : e .expected ≤ m .ctp
+  pub fresh : e .receiving .expected ≤ m .ctp
   pub not-last : m .ctp < limit
 
 -- and is accepted
 pub record Taken-in (us id : Text) (e : Entry) (m : Ksm) (a : After) : Type 0 where
   pub answered : a .outcome .answer ≡ 0
   pub returned : a .outcome .told ≡ keys (iv-of (brought e m) m) (m .edk)
-  pub entry : entry-of id (a .table) ≡ some (accepted e (m .ctp) (brought e m))
+  pub entry : entry-of id (a .table) ≡ some (with-receiving e (accepted (m .ctp) (brought e m)))
   pub message : Rsm
   pub written : Carries us id (rsm message) (a .outcome .reply)
   pub sealed : message .mac ≡ mac (mac-key (keys-in (brought e m))) (covered (a .outcome .reply))
 
 -- a request passes every test
 pub record Fit (e : Entry) (q : Request) : Type 0 where
-  pub free : is-waiting e ≡ false
-  pub not-last : e .next < limit
+  pub free : is-waiting (e .sending) ≡ false
+  pub not-last : e .sending .next < limit
   pub parity : any not-odd (used q) ≡ false
   pub formed : malformed q ≡ false

@@ -257,7 +257,7 @@ module _ (t : Table) (id name : Text) (top : Top) (l : legal t ≡ true) where
         is-9 : In-use (t .slots) → run t (load id name top) ≡ refuse t 9
         is-9 f = place-way ∙ ap (after-load t) (none-free (loaded (name-of id) (name-of name) top) (t .slots) f)
 
-        top-back : (k : Top) → top-of (loaded (name-of id) (name-of name) k) ≡ k
+        top-back : (k : Top) → top-of (loaded (name-of id) (name-of name) k .top) ≡ k
         unfolding loaded top-of
         top-back (Single key) = refl
         top-back (Pair left right) = refl

@@ -78,8 +78,8 @@ idk1-legal k h =
     go true r = filled-name (k .name .bytes) (not-false (is-filled (k .name .bytes)) r)
     go false r = refl
 
-idk2-legal : (e : Entry) (b : Bool) → legal e ≡ true → legal-name (asked b (bare (e .name .bytes))) ≡ true
-idk2-legal e true h = filled-name (e .name .bytes) (rules e h .name-filled)
+idk2-legal : (e : Entry) (b : Bool) → legal e ≡ true → legal-name (asked b (bare (e .top .name .bytes))) ≡ true
+idk2-legal e true h = filled-name (e .top .name .bytes) (rules e h .name-filled)
 idk2-legal e false h = refl
 
 -- the name that an outgoing key is given

@@ -14,7 +14,7 @@ use Rattle.octets.proofs.Comparing.{both as and-true, same-equal as same-true, 
 use Rattle.partner.specs.declared.Entry.{Entry}
 use Rattle.partner.specs.Entry.{empty}
 use Rattle.partner.specs.Legal as partner
-use Rattle.partner.specs.Record.{entry-bytes, front-bytes, top-bytes, count-bytes, place-bytes, set-bytes}
+use Rattle.partner.specs.Record.{entry-size, entry-bytes}
 use Rattle.partner.proofs.Keeping.{rules}
 use Rattle.partner.specs.Table.{is-empty, slots-legal, find, put}
 use Rattle.calls.specs.Claims.{kept, turned, emptied, Slotwise, end, next}
@@ -26,26 +26,26 @@ Slots = List Entry
 -- ---- empty slots and partners' identities
 
 pub empty-is : is-empty empty ≡ true
-unfolding is-empty entry-bytes front-bytes top-bytes count-bytes place-bytes set-bytes empty
+unfolding is-empty entry-bytes empty
 empty-is = refl
 
 -- a text that begins with a zero byte, or is empty, is no filled name
-zero-front : (s x y z : Text) (k : ℕ) (n : Text) → same (((s ++ x) ++ y) ++ z) (copies k 0) ≡ true
-    → partner.is-filled n ≡ true → same s n ≡ false
+zero-front : (s z : Text) (k : ℕ) (n : Text) → same (s ++ z) (copies k 0) ≡ true → partner.is-filled n ≡ true
+    → same s n ≡ false
 unfolding partner.is-filled
-zero-front s x y z k [] h f = absurd (true≢false (sym f))
-zero-front s x y z k (zero ∷ n) h f = absurd (true≢false (sym f))
-zero-front [] x y z k (suc c ∷ n) h f = refl
-zero-front (b ∷ s) x y z zero (suc c ∷ n) h f = absurd (true≢false (sym h))
-zero-front (b ∷ s) x y z (suc k) (suc c ∷ n) h f =
-    let i = eqb-true b 0 (and-true (eqb b 0) (same (((s ++ x) ++ y) ++ z) (copies k 0)) h .0) in
+zero-front s z k [] h f = absurd (true≢false (sym f))
+zero-front s z k (zero ∷ n) h f = absurd (true≢false (sym f))
+zero-front [] z k (suc c ∷ n) h f = refl
+zero-front (b ∷ s) z zero (suc c ∷ n) h f = absurd (true≢false (sym h))
+zero-front (b ∷ s) z (suc k) (suc c ∷ n) h f =
+    let i = eqb-true b 0 (and-true (eqb b 0) (same (s ++ z) (copies k 0)) h .0) in
     rw (i, eqb·zero-suc c)
 
 -- an empty slot is nobody's
 pub empty-nobody : (e : Entry) (id : Text) → is-empty e ≡ true → partner.is-filled id ≡ true
     → same (e .identity .bytes) id ≡ false
-unfolding is-empty entry-bytes front-bytes
-empty-nobody e id h f = zero-front (e .identity .bytes) (e .name .bytes) _ _ 156 id h f
+unfolding is-empty entry-bytes
+empty-nobody e id h f = zero-front (e .identity .bytes) _ entry-size id h f
 
 -- a legal entry is no empty slot
 pub legal-full : (e : Entry) → partner.legal e ≡ true → is-empty e ≡ false

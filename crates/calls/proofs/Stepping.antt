@@ -10,9 +10,10 @@ use Rattle.octets.specs.Text.{Text}
 use Rattle.octets.specs.Part.{bare}
 use Rattle.csm.specs.Message.{Body, Ksm, Rsm, Esm, Rsi, rsi, ksm, rsm, esm}
 use Rattle.partner.specs.declared.KeySet.{KeySet}
+use Rattle.partner.specs.declared.Sending.{Sending}
 use Rattle.partner.specs.declared.Entry.{Entry}
 use Rattle.partner.specs.Entry.{filled, limit, risen, waiting, broken, no-keys}
-use Rattle.partner.specs.Changes.{sending, receiving as receiving-side, accepted, issued, settled, given-up, failed}
+use Rattle.partner.specs.Changes.{with-receiving, with-sending, accepted, issued, settled, given-up, failed}
 use Rattle.partner.specs.Table.{Table, legal}
 use Rattle.calls.specs.declared.Request.{Request}
 use Rattle.calls.specs.Words.{any}
@@ -81,15 +82,15 @@ risen-by-one n h = rw (lt-ltb n limit h)
 
 accepts-it : (us id : Text) (e : Entry) (text : Text) (m : Ksm) (a : After) → Passes e text m → Taken-in us id e m a
     → Accepts us id e m a
-unfolding accepted receiving-side
+unfolding accepted
 accepts-it us id e text m a g t = record {
   answered = t .answered;
-  later = accepted e (m .ctp) (brought e m);
+  later = with-receiving e (accepted (m .ctp) (brought e m));
   entry = t .entry;
   expected = risen-by-one (m .ctp) (g .not-last);
   incoming = brought-brings e m;
-  key-stays = record { identity = refl; name = refl; form = refl; left = refl; right = refl };
-  sending-stays = record { count = refl; phase = refl; outgoing = refl };
+  key-stays = record { identity = refl; top = refl };
+  sending-stays = refl;
   iv = iv-of (brought e m) m;
   returned = t .returned;
   value = iv-returned (brought e m) m (ksm-formed (brought e m) m (g .format));
@@ -113,22 +114,22 @@ accepted-good t room text id m e c k z = passed e text m (accepted-is-good t roo
 
 -- ---- an RSM
 
-waits : (e : Entry) → e .phase ≡ waiting → is-waiting e ≡ true
+waits : (e : Entry) → e .sending .phase ≡ waiting → is-waiting (e .sending) ≡ true
 unfolding is-waiting
-waits e h = eq-eqb (e .phase) waiting h
+waits e h = eq-eqb (e .sending .phase) waiting h
 
-waits-not : (e : Entry) → (e .phase ≡ waiting → ⊥) → is-waiting e ≡ false
+waits-not : (e : Entry) → (e .sending .phase ≡ waiting → ⊥) → is-waiting (e .sending) ≡ false
 unfolding is-waiting
-waits-not e h = ne-eqb (e .phase) waiting h
+waits-not e h = ne-eqb (e .sending .phase) waiting h
 
-in-phase-1 : (e : Entry) → is-waiting e ≡ true → e .phase ≡ waiting
+in-phase-1 : (e : Entry) → is-waiting (e .sending) ≡ true → e .sending .phase ≡ waiting
 unfolding is-waiting
-in-phase-1 e h = eqb-true (e .phase) waiting h
+in-phase-1 e h = eqb-true (e .sending .phase) waiting h
 
-rsm-idle : (us : Text) (e : Entry) (text : Text) (m : Rsm) → is-waiting e ≡ false
+rsm-idle : (us : Text) (e : Entry) (text : Text) (m : Rsm) → is-waiting (e .sending) ≡ false
     → by-class.receive us e text (rsm m) ≡ refused e 5
 unfolding by-class.receive receive-rsm
-rsm-idle us e text m h = if-true (not (is-waiting e)) _ _ (ap not h)
+rsm-idle us e text m h = if-true (not (is-waiting (e .sending))) _ _ (ap not h)
 
 -- a message that is answered 5
 in-vain : (t : Table) (room : ℕ) (text id : Text) (b : Body) (e : Entry) → Comes t room id e
@@ -137,85 +138,88 @@ in-vain : (t : Table) (room : ℕ) (text id : Text) (b : Body) (e : Entry) → C
 in-vain t room text id b e g c p = ap (λ (a : After). a .outcome) (received t room text id b e (refused e 5) g c p)
 
 pub rsm-vain : (t : Table) (room : ℕ) (text id : Text) (m : Rsm) (e : Entry) → Comes t room id e
-    → Carries id (bare (t .own)) (rsm m) text → (e .phase ≡ waiting → ⊥)
+    → Carries id (bare (t .own)) (rsm m) text → (e .sending .phase ≡ waiting → ⊥)
     → run t (receive room text) .outcome ≡ refusal 5
 rsm-vain t room text id m e g c h =
     in-vain t room text id (rsm m) e g c (rsm-idle (bare (t .own)) e text m (waits-not e h))
 
 pub confirms : (t : Table) (room : ℕ) (text id : Text) (m : Rsm) (e : Entry) → Comes t room id e
-    → Carries id (bare (t .own)) (rsm m) text → e .phase ≡ waiting → Sealed (e .outgoing) text (m .mac)
+    → Carries id (bare (t .own)) (rsm m) text → e .sending .phase ≡ waiting → Sealed (e .sending .outgoing) text (m .mac)
     → Confirms id e (run t (receive room text))
-unfolding settled sending
+unfolding settled
 confirms t room text id m e g c w s =
     let r = rsm-taken t room text id m e (g .lawful) (g .roomy) c (g .known) (waits e w) s in
     record {
       answered = ap (λ o. o .answer) (r .0);
       silent = ap (λ o. o .reply) (r .0);
       told = ap (λ o. o .told) (r .0);
-      later = settled e;
+      later = with-sending e (settled (e .sending));
       entry = r .1;
       phase = refl;
       next = refl;
       outgoing = refl;
-      key-stays = record { identity = refl; name = refl; form = refl; left = refl; right = refl };
-      receiving-stays = record { count = refl; incoming = refl };
+      key-stays = record { identity = refl; top = refl };
+      receiving-stays = refl;
     }
 
 pub taken-good : (t : Table) (room : ℕ) (text id : Text) (m : Rsm) (e : Entry)
     → Carries id (bare (t .own)) (rsm m) text → entry-of id t ≡ some e
     → run t (receive room text) .outcome .answer ≡ 0
-    → (e .phase ≡ waiting) × Sealed (e .outgoing) text (m .mac)
+    → (e .sending .phase ≡ waiting) × Sealed (e .sending .outgoing) text (m .mac)
 taken-good t room text id m e c k z =
     let r = taken-is-good t room text id m e c k z in (in-phase-1 e (r .0), r .1)
 
 -- ---- an ESM, and giving up
 
-esm-idle : (us : Text) (e : Entry) (text : Text) (m : Esm) → is-waiting e ≡ false
+esm-idle : (us : Text) (e : Entry) (text : Text) (m : Esm) → is-waiting (e .sending) ≡ false
     → by-class.receive us e text (esm m) ≡ refused e 5
 unfolding by-class.receive receive-esm
-esm-idle us e text m h = if-true (not (is-waiting e)) _ _ (ap not h)
+esm-idle us e text m h = if-true (not (is-waiting (e .sending))) _ _ (ap not h)
 
 pub esm-vain : (t : Table) (room : ℕ) (text id : Text) (m : Esm) (e : Entry) → Comes t room id e
-    → Carries id (bare (t .own)) (esm m) text → (e .phase ≡ waiting → ⊥)
+    → Carries id (bare (t .own)) (esm m) text → (e .sending .phase ≡ waiting → ⊥)
     → run t (receive room text) .outcome ≡ refusal 5
 esm-vain t room text id m e g c h =
     in-vain t room text id (esm m) e g c (esm-idle (bare (t .own)) e text m (waits-not e h))
 
--- the sending side broken, with this next send count
+-- the sending unit broken, with this next send count
+broken-at : ℕ → Sending
+broken-at n = record { next = n; phase = broken; outgoing = no-keys }
+
 broken-with : (id : Text) (e : Entry) (n : ℕ) (a : After) → a .outcome .answer ≡ 0 → a .outcome .reply ≡ []
-    → entry-of id (a .table) ≡ some (sending e n broken no-keys) → Breaks id e n a
-unfolding sending
+    → entry-of id (a .table) ≡ some (with-sending e (broken-at n)) → Breaks id e n a
+unfolding broken-at
 broken-with id e n a z r k = record {
   answered = z;
   silent = r;
-  later = sending e n broken no-keys;
+  later = with-sending e (broken-at n);
   entry = k;
   phase = refl;
   outgoing = refl;
   next = refl;
-  key-stays = record { identity = refl; name = refl; form = refl; left = refl; right = refl };
-  receiving-stays = record { count = refl; incoming = refl };
+  key-stays = record { identity = refl; top = refl };
+  receiving-stays = refl;
 }
 
 -- what an ESM leaves
-after-so : (e : Entry) (m : Esm) → after-esm e m ≡ sending e (raised-to (e .next) (m .ctp)) broken no-keys
-unfolding given-up failed
-after-so e m = go (m .ctp) refl
+after-so : (s : Sending) (m : Esm) → after-esm s m ≡ broken-at (raised-to (s .next) (m .ctp))
+unfolding given-up failed broken-at
+after-so s m = go (m .ctp) refl
   where
-    go : (o : Option ℕ) → m .ctp ≡ o → after-esm e m ≡ sending e (raised-to (e .next) (m .ctp)) broken no-keys
+    go : (o : Option ℕ) → m .ctp ≡ o → after-esm s m ≡ broken-at (raised-to (s .next) (m .ctp))
     go none p = rw p
     go (some x) p = rw p
 
 pub esm-so : (t : Table) (room : ℕ) (text id : Text) (m : Esm) (e : Entry) → Comes t room id e
-    → Carries id (bare (t .own)) (esm m) text → e .phase ≡ waiting
-    → Breaks id e (raised-to (e .next) (m .ctp)) (run t (receive room text))
+    → Carries id (bare (t .own)) (esm m) text → e .sending .phase ≡ waiting
+    → Breaks id e (raised-to (e .sending .next) (m .ctp)) (run t (receive room text))
 esm-so t room text id m e g c w =
     let r = esm-breaking t room text id m e (g .lawful) (g .roomy) c (g .known) (waits e w) in
-    broken-with id e (raised-to (e .next) (m .ctp)) (run t (receive room text)) (ap (λ o. o .answer) (r .0))
-    (ap (λ o. o .reply) (r .0)) (r .1 ∙ ap {B = Option Entry} some (after-so e m))
+    broken-with id e (raised-to (e .sending .next) (m .ctp)) (run t (receive room text)) (ap (λ o. o .answer) (r .0))
+    (ap (λ o. o .reply) (r .0)) (r .1 ∙ ap (λ (s : Sending). some (with-sending e s)) (after-so (e .sending) m))
 
 pub esm-told : (t : Table) (room : ℕ) (text id : Text) (m : Esm) (e : Entry) → Comes t room id e
-    → Carries id (bare (t .own)) (esm m) text → e .phase ≡ waiting
+    → Carries id (bare (t .own)) (esm m) text → e .sending .phase ≡ waiting
     → run t (receive room text) .outcome .told ≡ failure (m .erf)
 esm-told t room text id m e g c w =
     ap (λ o. o .told) (esm-breaking t room text id m e (g .lawful) (g .roomy) c (g .known) (waits e w) .0)
@@ -226,28 +230,28 @@ unfolding run perform at-partner
 give-up-turns t id e l k =
     if-true (legal t) _ _ l ∙ if-false false _ _ refl ∙ ap (after-turn t id building.give-up) k
 
-given-up-turn : (e : Entry) → is-waiting e ≡ true → building.give-up e ≡ done (given-up e) [] nothing
+given-up-turn : (e : Entry) → is-waiting (e .sending) ≡ true → building.give-up e ≡ done (with-sending e (given-up (e .sending))) [] nothing
 unfolding building.give-up
-given-up-turn e h = if-false (not (is-waiting e)) _ _ (ap not h)
+given-up-turn e h = if-false (not (is-waiting (e .sending))) _ _ (ap not h)
 
-give-up-idle : (e : Entry) → is-waiting e ≡ false → building.give-up e ≡ refused e 5
+give-up-idle : (e : Entry) → is-waiting (e .sending) ≡ false → building.give-up e ≡ refused e 5
 unfolding building.give-up
-give-up-idle e h = if-true (not (is-waiting e)) _ _ (ap not h)
+give-up-idle e h = if-true (not (is-waiting (e .sending))) _ _ (ap not h)
 
 pub give-up-vain : (t : Table) (id : Text) (e : Entry) → legal t ≡ true → entry-of id t ≡ some e
-    → (e .phase ≡ waiting → ⊥) → run t (about id give-up) .outcome ≡ refusal 5
+    → (e .sending .phase ≡ waiting → ⊥) → run t (about id give-up) .outcome ≡ refusal 5
 give-up-vain t id e l k h =
     ap (λ (a : After). a .outcome)
     (give-up-turns t id e l k ∙ ap (put-back t id) (give-up-idle e (waits-not e h)))
 
 pub give-up-so : (t : Table) (id : Text) (e : Entry) → legal t ≡ true → entry-of id t ≡ some e
-    → e .phase ≡ waiting → Breaks id e (e .next) (run t (about id give-up))
-unfolding given-up sending
+    → e .sending .phase ≡ waiting → Breaks id e (e .sending .next) (run t (about id give-up))
+unfolding given-up broken-at
 give-up-so t id e l k w =
-    subst (Breaks id e (e .next))
+    subst (Breaks id e (e .sending .next))
     (sym (give-up-turns t id e l k ∙ ap (put-back t id) (given-up-turn e (waits e w))))
-    (broken-with id e (e .next) (put-back t id (done (given-up e) [] nothing)) refl refl
-    (turned-after t id e (given-up e) (entry-held t id e k) refl))
+    (broken-with id e (e .sending .next) (put-back t id (done (with-sending e (given-up (e .sending))) [] nothing)) refl refl
+    (turned-after t id e (with-sending e (given-up (e .sending))) (entry-held t id e k) refl))
 
 -- ---- an RSI
 
@@ -274,34 +278,34 @@ module _ (t : Table) (room : ℕ) (id : Text) (q : Request) (e : Entry) (g : Com
       ap (λ (a : After). a .outcome)
       (build-turns t (g .lawful) room (g .roomy) id e (g .known) q ∙ ap (put-back t id) p)
 
-  pub is-7 : e .phase ≡ waiting → run t (about id (build-ksm room q)) .outcome ≡ refusal 7
+  pub is-7 : e .sending .phase ≡ waiting → run t (about id (build-ksm room q)) .outcome ≡ refusal 7
   unfolding building.build-ksm
-  is-7 w = builds-to (refused e 7) (if-true (is-waiting e) _ _ (waits e w))
+  is-7 w = builds-to (refused e 7) (if-true (is-waiting (e .sending)) _ _ (waits e w))
 
-  pub is-8 : (e .phase ≡ waiting → ⊥) → e .next ≡ limit → run t (about id (build-ksm room q)) .outcome ≡ refusal 8
+  pub is-8 : (e .sending .phase ≡ waiting → ⊥) → e .sending .next ≡ limit → run t (about id (build-ksm room q)) .outcome ≡ refusal 8
   unfolding building.build-ksm
   is-8 w n =
-      builds-to (refused e 8) (if-false (is-waiting e) _ _ (waits-not e w)
-      ∙ if-true (eqb (e .next) limit) _ _ (eq-eqb (e .next) limit n))
+      builds-to (refused e 8) (if-false (is-waiting (e .sending)) _ _ (waits-not e w)
+      ∙ if-true (eqb (e .sending .next) limit) _ _ (eq-eqb (e .sending .next) limit n))
 
-  pub is-11 : (e .phase ≡ waiting → ⊥) → (e .next ≡ limit → ⊥) → (Odd-where-marked q → ⊥)
+  pub is-11 : (e .sending .phase ≡ waiting → ⊥) → (e .sending .next ≡ limit → ⊥) → (Odd-where-marked q → ⊥)
       → run t (about id (build-ksm room q)) .outcome ≡ refusal 11
   unfolding building.build-ksm
   is-11 w n o =
-      builds-to (refused e 11) (if-false (is-waiting e) _ _ (waits-not e w)
-      ∙ if-false (eqb (e .next) limit) _ _ (ne-eqb (e .next) limit n)
+      builds-to (refused e 11) (if-false (is-waiting (e .sending)) _ _ (waits-not e w)
+      ∙ if-false (eqb (e .sending .next) limit) _ _ (ne-eqb (e .sending .next) limit n)
       ∙ if-true (any not-odd (used q)) _ _ (go (any not-odd (used q)) refl))
     where
       go : (b : Bool) → any not-odd (used q) ≡ b → b ≡ true
       go true p = refl
       go false p = absurd (o (odd-where-marked q p))
 
-  pub is-12 : (e .phase ≡ waiting → ⊥) → (e .next ≡ limit → ⊥) → Odd-where-marked q → (Formed-request q → ⊥)
+  pub is-12 : (e .sending .phase ≡ waiting → ⊥) → (e .sending .next ≡ limit → ⊥) → Odd-where-marked q → (Formed-request q → ⊥)
       → run t (about id (build-ksm room q)) .outcome ≡ refusal 12
   unfolding building.build-ksm
   is-12 w n o f =
-      builds-to (refused e 12) (if-false (is-waiting e) _ _ (waits-not e w)
-      ∙ if-false (eqb (e .next) limit) _ _ (ne-eqb (e .next) limit n)
+      builds-to (refused e 12) (if-false (is-waiting (e .sending)) _ _ (waits-not e w)
+      ∙ if-false (eqb (e .sending .next) limit) _ _ (ne-eqb (e .sending .next) limit n)
       ∙ if-false (any not-odd (used q)) _ _ (none-even q o)
       ∙ if-true (malformed q) _ _ (go (malformed q) refl))
     where
@@ -309,15 +313,15 @@ module _ (t : Table) (room : ℕ) (id : Text) (q : Request) (e : Entry) (g : Com
       go true p = refl
       go false p = absurd (f (request-formed q p))
 
-  pub built-entry : Good-request e q → entry-of id (run t (about id (build-ksm room q)) .table) ≡ some (issued e (outgoing-of q))
-  unfolding issued sending
+  pub built-entry : Good-request e q → entry-of id (run t (about id (build-ksm room q)) .table) ≡ some (with-sending e (issued (e .sending) (outgoing-of q)))
+  unfolding issued
   built-entry h =
-      subst (λ (a : After). entry-of id (a .table) ≡ some (issued e (outgoing-of q)))
+      subst (λ (a : After). entry-of id (a .table) ≡ some (with-sending e (issued (e .sending) (outgoing-of q))))
       (sym (request-built t room id q e (g .lawful) (g .roomy) (g .known) (fit e q h)))
-      (turned-after t id e (issued e (outgoing-of q)) (entry-held t id e (g .known)) refl)
+      (turned-after t id e (with-sending e (issued (e .sending) (outgoing-of q))) (entry-held t id e (g .known)) refl)
 
   pub builds : Good-request e q → Builds (bare (t .own)) id e q (run t (about id (build-ksm room q)))
-  unfolding issued sending
+  unfolding issued
   builds h =
       let us = bare (t .own) in
       let f = fit e q h in
@@ -328,13 +332,13 @@ module _ (t : Table) (room : ℕ) (id : Text) (q : Request) (e : Entry) (g : Com
       subst (Builds us id e q) (sym (request-built t room id q e (g .lawful) (g .roomy) (g .known) f)) (record {
         answered = refl;
         told = refl;
-        later = issued e (outgoing-of q);
-        entry = turned-after t id e (issued e (outgoing-of q)) k refl;
-        next = risen-by-one (e .next) (h .not-last);
+        later = with-sending e (issued (e .sending) (outgoing-of q));
+        entry = turned-after t id e (with-sending e (issued (e .sending) (outgoing-of q))) k refl;
+        next = risen-by-one (e .sending .next) (h .not-last);
         phase = refl;
         outgoing = kept q (h .formed);
-        key-stays = record { identity = refl; name = refl; form = refl; left = refl; right = refl };
-        receiving-stays = record { count = refl; incoming = refl };
+        key-stays = record { identity = refl; top = refl };
+        receiving-stays = refl;
         message = sent us e q;
         written =
             subst (λ (x : Text). Carries us x (ksm (sent us e q)) (ksm-text us e q)) (k .bare-identity)
@@ -353,7 +357,7 @@ module _ (t u : Table) (e f : Entry) (q : Request) (room : ℕ) (p : Partners t 
     (sized : Sized q) (roomy : 256 ≤ room) where
   -- the entry that waits, and its confirmation
   confirmed-so : (after-confirmed t u q room .outcome ≡ success [] confirmation)
-      × (entry-of (bare (u .own)) (after-confirmed t u q room .table) ≡ some (settled (issued e (outgoing-of q))))
+      × (entry-of (bare (u .own)) (after-confirmed t u q room .table) ≡ some (with-sending e (settled (issued (e .sending) (outgoing-of q)))))
   confirmed-so =
       let us = bare (t .own) in
       let them = bare (u .own) in
@@ -363,7 +367,7 @@ module _ (t u : Table) (e f : Entry) (q : Request) (room : ℕ) (p : Partners t 
       let a = accepts t u e f q room p x sized roomy in
       let k = keys-back us e f q (p .same-top) sized in
       rsm-taken (after-built t u q room .table) room (after-taken t u q room .outcome .reply) them (a .message)
-      (issued e set) (legals t _ _ _ (run-effect t (about them (build-ksm room q))) (p .ours)) roomy
+      (with-sending e (issued (e .sending) set)) (legals t _ _ _ (run-effect t (about them (build-ksm room q))) (p .ours)) roomy
       (subst (λ (own : Text). Carries them (bare own) (rsm (a .message)) (after-taken t u q room .outcome .reply))
       (sym (owns t _ _ _ (run-effect t (about them (build-ksm room q))))) (a .written))
       (built-entry t room them q e (record { lawful = p .ours; roomy = roomy; known = p .our-entry }) g)
@@ -372,7 +376,7 @@ module _ (t u : Table) (e f : Entry) (q : Request) (room : ℕ) (p : Partners t 
       (k ∙ sym (issued-outgoing e set)) (a .sealed))
 
   pub exchanged : Exchanged t u e q room
-  unfolding accepted issued settled sending receiving-side
+  unfolding accepted issued settled
   exchanged =
       let us = bare (t .own) in
       let m = sent us e q in
@@ -387,13 +391,13 @@ module _ (t u : Table) (e f : Entry) (q : Request) (room : ℕ) (p : Partners t 
         returned = a .returned ∙ ap (λ (s : KeySet). keys (iv-of s m) (m .edk)) k
             ∙ (λ j. keys (iv-arrives us e q sized j) (date-arrives us e q j));
         confirmation = confirmed-so .0;
-        ours = settled (issued e set);
-        theirs = accepted f (m .ctp) (brought f m);
+        ours = with-sending e (settled (issued (e .sending) set));
+        theirs = with-receiving f (accepted (m .ctp) (brought f m));
         our-entry = confirmed-so .1;
         their-entry = a .entry;
         phase = refl;
         keys = kept q (g .formed);
         same-keys = k;
-        sent = risen-by-one (e .next) (g .not-last);
-        accepted = ap risen (sent-count us e q) ∙ risen-by-one (e .next) (g .not-last);
+        sent = risen-by-one (e .sending .next) (g .not-last);
+        accepted = ap risen (sent-count us e q) ∙ risen-by-one (e .sending .next) (g .not-last);
       }

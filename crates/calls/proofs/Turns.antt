@@ -19,7 +19,7 @@ use Rattle.partner.specs.declared.KeySet.{KeySet}
 use Rattle.partner.specs.declared.Entry.{Entry}
 use Rattle.partner.specs.Entry.{limit, waiting}
 use Rattle.partner.specs.Legal.{is-named, keys-formed, legal}
-use Rattle.partner.specs.Changes.{sending, receiving, accepted, issued, settled, given-up, failed}
+use Rattle.partner.specs.Changes.{with-receiving, with-sending, accepted, issued, settled, given-up, failed}
 use Rattle.partner.proofs.Keeping.{rules}
 use Rattle.partner.proofs.Claims.{claims}
 use Rattle.calls.specs.declared.Request.{Request}
@@ -39,12 +39,12 @@ use Rattle.calls.proofs.Written.{to-them, rsm-written, sent, sent-writt
 
 pub data Change (e : Entry) : Entry → Type 0 where
   stays : Change e e
-  takes : (n : ℕ) (set : KeySet) → keys-formed set ≡ true → 1 ≤ n → n < limit → e .expected ≤ n
-      → Change e (accepted e n set)
-  issues : (set : KeySet) → keys-formed set ≡ true → e .next < limit → Change e (issued e set)
-  settles : e .phase ≡ waiting → Change e (settled e)
-  gives-up : e .phase ≡ waiting → Change e (given-up e)
-  fails : (x : ℕ) → e .phase ≡ waiting → 1 ≤ x → x ≤ limit → Change e (failed e x)
+  takes : (n : ℕ) (set : KeySet) → keys-formed set ≡ true → 1 ≤ n → n < limit → e .receiving .expected ≤ n
+      → Change e (with-receiving e (accepted n set))
+  issues : (set : KeySet) → keys-formed set ≡ true → e .sending .next < limit → Change e (with-sending e (issued (e .sending) set))
+  settles : e .sending .phase ≡ waiting → Change e (with-sending e (settled (e .sending)))
+  gives-up : e .sending .phase ≡ waiting → Change e (with-sending e (given-up (e .sending)))
+  fails : (x : ℕ) → e .sending .phase ≡ waiting → 1 ≤ x → x ≤ limit → Change e (with-sending e (failed (e .sending) x))
 
 pub change-legal : (e f : Entry) → Change e f → legal e ≡ true → legal f ≡ true
 change-legal e f stays h = h
@@ -55,7 +55,7 @@ change-legal e f (gives-up w) h = claims .given-up-is-legal e h w
 change-legal e f (fails x w j l) h = claims .failed-is-legal e x h w j l
 
 pub change-identity : (e f : Entry) → Change e f → f .identity ≡ e .identity
-unfolding accepted issued settled given-up failed sending receiving
+unfolding accepted issued settled given-up failed
 change-identity e f stays = refl
 change-identity e f (takes n set g c k l) = refl
 change-identity e f (issues set g k) = refl
@@ -64,14 +64,14 @@ change-identity e f (gives-up w) = refl
 change-identity e f (fails x w j l) = refl
 
 -- counts do not fall
-pub change-counts : (e f : Entry) → Change e f → (e .next ≤ f .next) × (e .expected ≤ f .expected)
-unfolding accepted issued settled given-up failed sending receiving
+pub change-counts : (e f : Entry) → Change e f → (e .sending .next ≤ f .sending .next) × (e .receiving .expected ≤ f .receiving .expected)
+unfolding accepted issued settled given-up failed
 change-counts e f stays = (omega arith, omega arith)
 change-counts e f (takes n set g c k l) = let r = claims .rises-by-one n k in (omega arith, omega arith)
-change-counts e f (issues set g k) = let r = claims .rises-by-one (e .next) k in (omega arith, omega arith)
+change-counts e f (issues set g k) = let r = claims .rises-by-one (e .sending .next) k in (omega arith, omega arith)
 change-counts e f (settles w) = (omega arith, omega arith)
 change-counts e f (gives-up w) = (omega arith, omega arith)
-change-counts e f (fails x w j l) = (le-max-left (e .next) x, omega arith)
+change-counts e f (fails x w j l) = (le-max-left (e .sending .next) x, omega arith)
 
 -- ---- what a turn does
 
@@ -142,9 +142,9 @@ pub short-of-last : (n : ℕ) → within 1 limit n ≡ true → eqb n limit ≡ 
 short-of-last n h k = omega (arith, within-true 1 limit n h .1, eqb-false n limit k)
 
 -- waiting is phase 1
-in-wait : (e : Entry) → not (is-waiting e) ≡ false → e .phase ≡ waiting
+in-wait : (e : Entry) → not (is-waiting (e .sending)) ≡ false → e .sending .phase ≡ waiting
 unfolding is-waiting
-in-wait e h = eqb-true (e .phase) waiting (not-false (eqb (e .phase) waiting) h)
+in-wait e h = eqb-true (e .sending .phase) waiting (not-false (eqb (e .sending .phase) waiting) h)
 
 module _ (us : Text) (e : Entry) (named : is-name us ≡ true) (lawful : legal e ≡ true) where
   abbrev Replies : Body → Turn → Type 0
@@ -158,12 +158,12 @@ module _ (us : Text) (e : Entry) (named : is-name us ≡ true) (lawful : legal e
       let c = ksm-parts m h .count in
       by-case (Replies (ksm m)) _ _ _
       (λ q. complains (faults e set text m) (counts-for e m) (eqb-false _ 0 (not-true _ q))
-      (letters-legal (bad-format set m) (bad-mac set text (m .mac)) (bad-count (e .expected) (m .ctp))
-      (e .expected) (m .ctp) (rules e lawful .expected-right) c q))
+      (letters-legal (bad-format set m) (bad-mac set text (m .mac)) (bad-count (e .receiving .expected) (m .ctp))
+      (e .receiving .expected) (m .ctp) (rules e lawful .expected-right) c q))
       (λ q. let k = or-split _ _ (no-P (bad-format set m) (bad-mac set text (m .mac)) _ (not-false _ q)) in
       let x = rsm-written us e named lawful set in
       does _ _ _ (takes (m .ctp) set (brought-formed e m h) (within-true 1 limit (m .ctp) c .0)
-      (short-of-last (m .ctp) c (k .1)) (ltb-false (m .ctp) (e .expected) (k .0))) (x .0, x .1))
+      (short-of-last (m .ctp) c (k .1)) (ltb-false (m .ctp) (e .receiving .expected) (k .0))) (x .0, x .1))
 
   pub receive-does : (text : Text) (b : Body) → legal-body b ≡ true → Replies b (receive us e text b)
   unfolding receive receive-ksm receive-rsm receive-esm
@@ -180,12 +180,12 @@ module _ (us : Text) (e : Entry) (named : is-name us ≡ true) (lawful : legal e
       by-case (Replies (esm m)) _ _ _ (λ q. refuses 5 refl) λ w.
       go (in-wait e w) (m .ctp) refl (esm-count m h)
     where
-      go : e .phase ≡ waiting → (o : Option ℕ) → m .ctp ≡ o → maybe-legal (field CTP) o ≡ true
-          → Replies (esm m) (done (after-esm e m) [] (failure (m .erf)))
-      go w none q l = does (after-esm e m) [] _ (rw q (gives-up w)) refl
+      go : e .sending .phase ≡ waiting → (o : Option ℕ) → m .ctp ≡ o → maybe-legal (field CTP) o ≡ true
+          → Replies (esm m) (done (with-sending e (after-esm (e .sending) m)) [] (failure (m .erf)))
+      go w none q l = does (with-sending e (after-esm (e .sending) m)) [] _ (rw q (gives-up w)) refl
       go w (some x) q l =
           let b = within-true 1 limit x l in
-          does (after-esm e m) [] _ (rw q (fails x w (b .0) (b .1))) refl
+          does (with-sending e (after-esm (e .sending) m)) [] _ (rw q (fails x w (b .0) (b .1))) refl
   receive-does text (option c w) h = complains O none (eqb-false O 0 refl) (esm-legal O refl refl)
 
   -- ---- build, give up
@@ -199,7 +199,7 @@ module _ (us : Text) (e : Entry) (named : is-name us ≡ true) (lawful : legal e
       by-case (Does us e _) _ _ _ (λ h. refuses 11 refl) λ h.
       by-case (Does us e _) _ _ _ (λ h. refuses 12 refl) λ f.
       does _ _ _ (issues (outgoing-of q) (outgoing-formed q (formed q f .keys))
-      (short-of-last (e .next) (rules e lawful .next-right) last))
+      (short-of-last (e .sending .next) (rules e lawful .next-right) last))
       (sent us e q, sent-written us e named lawful q (formed q f))
 
   -- an RSI for that service

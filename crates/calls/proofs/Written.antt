@@ -30,7 +30,7 @@ sent us e q = record {
   second = asked (eqb (q .count) 2) (kd-for e (q .second));
   iv = iv-for q;
   edk = asked (eqb (q .dated) 1) (q .date .digits);
-  ctp = e .next;
+  ctp = e .sending .next;
   mac = mac (mac-key (keys-in (outgoing-of q))) (covered-part (to-partner us e (ksm-body e q 0)));
 }
 

@@ -20,7 +20,7 @@ use Rattle.partner.specs.declared.KeySet.{KeySet}
 use Rattle.partner.specs.declared.Entry.{Entry}
 use Rattle.partner.specs.Entry.{limit, name-of, top-of, keys-in, one-key, two-keys}
 use Rattle.partner.specs.Legal.{is-filled}
-use Rattle.partner.specs.Changes.{issued, given-up}
+use Rattle.partner.specs.Changes.{with-sending, issued, given-up}
 use Rattle.calls.specs.declared.KeyRequest.{KeyRequest}
 use Rattle.calls.specs.declared.Request.{Request}
 use Rattle.calls.specs.Words.{if_then_else_, any}
@@ -88,10 +88,10 @@ asked b a = cond b (some a) none
 -- name) where asked for
 abbrev pub kd-for : Entry → KeyRequest → Kd
 kd-for e k = record {
-  key = seal (working (top-of e) (e .next)) (k .key);
+  key = seal (working (top-of (e .top)) (e .sending .next)) (k .key);
   p = wants-p k;
   idk1 = asked (wants-idk1 k) (bare (k .name .bytes));
-  idk2 = asked (wants-idk2 k) (bare (e .name .bytes));
+  idk2 = asked (wants-idk2 k) (bare (e .top .name .bytes));
 }
 
 -- the IV: P and the value, or E and the value enciphered
@@ -107,7 +107,7 @@ ksm-body e q m = ksm (record {
   second = asked (eqb (q .count) 2) (kd-for e (q .second));
   iv = iv-for q;
   edk = asked (eqb (q .dated) 1) (q .date .digits);
-  ctp = e .next;
+  ctp = e .sending .next;
   mac = m;
 })
 
@@ -123,11 +123,11 @@ ksm-text own e q =
 -- by one; outgoing keys set; phase 1
 unfoldable pub build-ksm : Text → Entry → Request → Turn
 build-ksm own e q =
-    if is-waiting e then refused e 7 else
-    if eqb (e .next) limit then refused e 8 else
+    if is-waiting (e .sending) then refused e 7 else
+    if eqb (e .sending .next) limit then refused e 8 else
     if any not-odd (used q) then refused e 11 else
     if malformed q then refused e 12 else
-    done (issued e (outgoing-of q)) (ksm-text own e q) nothing
+    done (with-sending e (issued (e .sending) (outgoing-of q))) (ksm-text own e q) nothing
 
 -- build an RSI: 12 (no legal SVR); it changes nothing
 unfoldable pub build-rsi : Text → Entry → Text → Turn
@@ -139,4 +139,4 @@ build-rsi own e contents =
 
 -- give up: 5, else phase 3 and keys wiped
 unfoldable pub give-up : Entry → Turn
-give-up e = if not (is-waiting e) then refused e 5 else done (given-up e) [] nothing
+give-up e = if not (is-waiting (e .sending)) then refused e 5 else done (with-sending e (given-up (e .sending))) [] nothing

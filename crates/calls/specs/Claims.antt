@@ -124,7 +124,7 @@ pub record Claims : Type 0 where
   -- a partner's counts never fall
   pub counts-never-fall : (t : Table) (c : Call) (e f : Entry)
       → entry-of (subject c) t ≡ some e → entry-of (subject c) (run t c .table) ≡ some f
-      → (e .next ≤ f .next) × (e .expected ≤ f .expected)
+      → (e .sending .next ≤ f .sending .next) × (e .receiving .expected ≤ f .receiving .expected)
   -- what a call does depends on the call, our identity and that partner's entry, and on no other entry
   pub one-entry-decides : (t u : Table) (c : Call) → Of-one-entry c
       → legal t ≡ true → legal u ≡ true → t .own ≡ u .own

@@ -35,11 +35,11 @@ pub data Kd-of (m : Ksm) : Kd → Type 0 where
 
 -- an IDK2 is the entry's name
 abbrev pub Ours : Entry → Kd → Type 0
-Ours e k = (n : Text) → k .idk2 ≡ some n → n ≡ bare (e .name .bytes)
+Ours e k = (n : Text) → k .idk2 ≡ some n → n ≡ bare (e .top .name .bytes)
 
 -- a KD's key deciphered: under the top key offset by the message's CTP
 abbrev pub in-clear : Entry → Ksm → Kd → ℕ
-in-clear e m k = unseal (working (top-of e) (m .ctp)) (k .key)
+in-clear e m k = unseal (working (top-of (e .top)) (m .ctp)) (k .key)
 
 -- a KD marked P is of odd parity once deciphered
 abbrev pub Even-only-unmarked : Entry → Ksm → Kd → Type 0
@@ -89,7 +89,7 @@ pub record Good-but-its-count (e : Entry) (text : Text) (m : Ksm) : Type 0 where
 -- and the count
 pub record Good-ksm (e : Entry) (text : Text) (m : Ksm) : Type 0 where
   pub rest : Good-but-its-count e text m
-  pub count : In-turn (e .expected) (m .ctp)
+  pub count : In-turn (e .receiving .expected) (m .ctp)
 
 -- ---- a request for a key message
 
@@ -119,8 +119,8 @@ pub record Formed-request (q : Request) : Type 0 where
 
 -- nothing waits, the count is not the last, parity and form as they must be
 pub record Good-request (e : Entry) (q : Request) : Type 0 where
-  pub free : e .phase ≡ waiting → ⊥
-  pub not-last : e .next < 99_999_999
+  pub free : e .sending .phase ≡ waiting → ⊥
+  pub not-last : e .sending .next < 99_999_999
   pub parity : Odd-where-marked q
   pub formed : Formed-request q
 

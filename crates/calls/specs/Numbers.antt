@@ -17,19 +17,19 @@ use Rattle.calls.specs.Good.{Good-but-its-count}
 -- what a KSM that is good but for its count, of this count, does where this one is expected
 abbrev pub Comes-to : ℕ → ℕ → (Turn → Type 0) → Type 0
 Comes-to expected count result =
-    (own : Text) (e : Entry) (text : Text) (m : Ksm) → e .expected ≡ expected → m .ctp ≡ count
+    (own : Text) (e : Entry) (text : Text) (m : Ksm) → e .receiving .expected ≡ expected → m .ctp ≡ count
     → Good-but-its-count e text m → result (receive-ksm own e text m)
 
 -- it is accepted and leaves this expected count
 pub record Leaves (expected : ℕ) (t : Turn) : Type 0 where
   pub accepted : t .outcome .answer ≡ 0
-  pub expects : t .entry .expected ≡ expected
+  pub expects : t .entry .receiving .expected ≡ expected
 
 -- 4 with P alone, and the expected count stays
 pub record Is-P (expected : ℕ) (t : Turn) : Type 0 where
   pub answered : t .outcome .answer ≡ 4
   pub spelled : letters-of error-letters (t .outcome .letters) ≡ ascii "P"
-  pub expects : t .entry .expected ≡ expected
+  pub expects : t .entry .receiving .expected ≡ expected
 
 pub record Numbers : Type 0 where
   -- parity, offset by 258, the two dates

@@ -31,16 +31,16 @@ by-class e text (rsi m) = []
 by-class e text (ksm m) =
     (any (foreign e) (kds m), 4) ∷ (any (uneven e m) (kds m), 4)
     ∷ (not (eqb (faults e (brought e m) text m) 0), 4) ∷ []
-by-class e text (rsm m) = (not (is-waiting e), 5) ∷ (bad-mac (e .outgoing) text (m .mac), 4) ∷ []
-by-class e text (esm m) = (not (is-waiting e), 5) ∷ []
+by-class e text (rsm m) = (not (is-waiting (e .sending)), 5) ∷ (bad-mac (e .sending .outgoing) text (m .mac), 4) ∷ []
+by-class e text (esm m) = (not (is-waiting (e .sending)), 5) ∷ []
 by-class e text (option c w) = (true, 4) ∷ []
 
 -- an act
 abbrev pub by-act : Act → Entry → Order
 by-act (build-ksm room q) e =
-    (is-waiting e, 7) ∷ (eqb (e .next) limit, 8) ∷ (any not-odd (used q), 11) ∷ (malformed q, 12) ∷ []
+    (is-waiting (e .sending), 7) ∷ (eqb (e .sending .next) limit, 8) ∷ (any not-odd (used q), 11) ∷ (malformed q, 12) ∷ []
 by-act (build-rsi room contents) e = (not (found (value svr contents)), 12) ∷ []
-by-act give-up e = (not (is-waiting e), 5) ∷ []
+by-act give-up e = (not (is-waiting (e .sending)), 5) ∷ []
 by-act remove e = []
 by-act ask e = []
 

@@ -17,9 +17,10 @@ use Rattle.csm.specs.Message.{Ksm, Rsm, Esm, Body, rsi, ksm, rsm, esm, option, 
 use Rattle.csm.specs.Covered.{covered, covered-part}
 use Rattle.partner.specs.declared.DataKey.{DataKey}
 use Rattle.partner.specs.declared.KeySet.{KeySet}
+use Rattle.partner.specs.declared.Sending.{Sending}
 use Rattle.partner.specs.declared.Entry.{Entry}
 use Rattle.partner.specs.Entry.{limit, waiting, name-of, top-of, keys-in, one-key, two-keys}
-use Rattle.partner.specs.Changes.{accepted, settled, given-up, failed}
+use Rattle.partner.specs.Changes.{with-receiving, with-sending, accepted, settled, given-up, failed}
 use Rattle.calls.specs.Words.{if_then_else_, some-has, any}
 use Rattle.calls.specs.Outcome.{F, I, K, M, O, P, service, keys, confirmation, failure}
 use Rattle.calls.specs.Outcome.{Turn, complaint, refused, done}
@@ -54,15 +55,15 @@ rsm-text own e set =
 
 -- the key name in force for a KD: its own IDK2 or, without one, the name in the table entry
 abbrev pub name-in-force : Entry → Kd → Text
-name-in-force e k = elim (k .idk2) [ none ↦ bare (e .name .bytes) | some n ↦ n ]
+name-in-force e k = elim (k .idk2) [ none ↦ bare (e .top .name .bytes) | some n ↦ n ]
 
 -- I: an IDK2 that is not the entry's name
 unfoldable pub foreign : Entry → Kd → Bool
-foreign e k = not (same (name-in-force e k) (bare (e .name .bytes)))
+foreign e k = not (same (name-in-force e k) (bare (e .top .name .bytes)))
 
 -- a KD's key deciphered under the top key offset by the message's CTP
 abbrev pub deciphered : Entry → Ksm → Kd → ℕ
-deciphered e m k = unseal (working (top-of e) (m .ctp)) (k .key)
+deciphered e m k = unseal (working (top-of (e .top)) (m .ctp)) (k .key)
 
 -- K: a KD marked P and not of odd parity once deciphered
 unfoldable pub uneven : Entry → Ksm → Kd → Bool
@@ -111,11 +112,11 @@ when b letter = cond b letter 0
 -- F, M and P are all judged: all that hold
 unfoldable pub faults : Entry → KeySet → Text → Ksm → ℕ
 faults e set text m =
-    when (bad-format set m) F + (when (bad-mac set text (m .mac)) M + when (bad-count (e .expected) (m .ctp)) P)
+    when (bad-format set m) F + (when (bad-mac set text (m .mac)) M + when (bad-count (e .receiving .expected) (m .ctp)) P)
 
 -- the counts of an ESM for P
 abbrev pub counts-for : Entry → Ksm → Option (ℕ × ℕ)
-counts-for e m = cond (bad-count (e .expected) (m .ctp)) (some (e .expected, m .ctp)) none
+counts-for e m = cond (bad-count (e .receiving .expected) (m .ctp)) (some (e .receiving .expected, m .ctp)) none
 
 -- the IV, if there is one
 abbrev pub iv-of : KeySet → Ksm → Option ℕ
@@ -126,7 +127,7 @@ iv-of set m = elim (m .iv) [ none ↦ none | some w ↦ iv-value (keys-in set) w
 unfoldable pub judged : Text → Entry → Text → Ksm → KeySet → Turn
 judged own e text m set =
     if not (eqb (faults e set text m) 0) then error own e (faults e set text m) (counts-for e m) else
-    done (accepted e (m .ctp) set) (rsm-text own e set) (keys (iv-of set m) (m .edk))
+    done (with-receiving e (accepted (m .ctp) set)) (rsm-text own e set) (keys (iv-of set m) (m .edk))
 
 -- I alone, K alone, then F, M and P together
 unfoldable pub receive-ksm : Text → Entry → Text → Ksm → Turn
@@ -137,24 +138,24 @@ receive-ksm own e text m =
 
 -- ---- an RSM: not waiting, 5; MAC differs under the outgoing keys, 4 with M, still waiting; otherwise 0, phase 2
 
-unfoldable pub is-waiting : Entry → Bool
-is-waiting e = eqb (e .phase) waiting
+unfoldable pub is-waiting : Sending → Bool
+is-waiting s = eqb (s .phase) waiting
 
 unfoldable pub receive-rsm : Text → Entry → Text → Rsm → Turn
 receive-rsm own e text m =
-    if not (is-waiting e) then refused e 5 else
-    if bad-mac (e .outgoing) text (m .mac) then error own e M none else
-    done (settled e) [] confirmation
+    if not (is-waiting (e .sending)) then refused e 5 else
+    if bad-mac (e .sending .outgoing) text (m .mac) then error own e M none else
+    done (with-sending e (settled (e .sending))) [] confirmation
 
 -- ---- an ESM: not waiting, 5; otherwise 0: phase 3, keys wiped, next send the larger of itself and CTP
 
-abbrev pub after-esm : Entry → Esm → Entry
-after-esm e m = elim (m .ctp) [ none ↦ given-up e | some x ↦ failed e x ]
+abbrev pub after-esm : Sending → Esm → Sending
+after-esm s m = elim (m .ctp) [ none ↦ given-up s | some x ↦ failed s x ]
 
 unfoldable pub receive-esm : Entry → Esm → Turn
 receive-esm e m =
-    if not (is-waiting e) then refused e 5 else
-    done (after-esm e m) [] (failure (m .erf))
+    if not (is-waiting (e .sending)) then refused e 5 else
+    done (with-sending e (after-esm (e .sending) m)) [] (failure (m .erf))
 
 -- ---- by class; an RSI: 0, the service wanted is returned; an option: 4 with O
 

@@ -41,13 +41,13 @@ pub record Loads (id name : Text) (top : Top) (t : Table) (a : After) : Type 0 w
   pub entry : Entry
   pub slots-now : a .table .slots ≡ before ++ (entry ∷ behind)
   pub identity : entry .identity .bytes ≡ filled id
-  pub key-name : entry .name .bytes ≡ filled name
-  pub key : top-of entry ≡ top
-  pub next : entry .next ≡ 1
-  pub expected : entry .expected ≡ 1
-  pub phase : entry .phase ≡ idle
-  pub outgoing : entry .outgoing ≡ no-keys
-  pub incoming : entry .incoming ≡ no-keys
+  pub key-name : entry .top .name .bytes ≡ filled name
+  pub key : top-of (entry .top) ≡ top
+  pub next : entry .sending .next ≡ 1
+  pub expected : entry .receiving .expected ≡ 1
+  pub phase : entry .sending .phase ≡ idle
+  pub outgoing : entry .sending .outgoing ≡ no-keys
+  pub incoming : entry .receiving .incoming ≡ no-keys
 
 -- a table with our identity and 64 empty slots
 pub record Starts (own : Text) (t : Table) : Type 0 where

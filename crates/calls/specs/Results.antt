@@ -21,26 +21,11 @@ use Rattle.calls.specs.Calls.{After, entry-of}
 use Rattle.calls.specs.Claims.{Carries}
 use Rattle.calls.specs.Good.{Brings, Iv, Sealed}
 
--- ---- what stays of an entry
+-- ---- what stays of an entry: identity, and the top key with its name
 
--- identity, key name, top key
 pub record Key-stays (e f : Entry) : Type 0 where
   pub identity : f .identity ≡ e .identity
-  pub name : f .name ≡ e .name
-  pub form : f .form ≡ e .form
-  pub left : f .left ≡ e .left
-  pub right : f .right ≡ e .right
-
--- next send count, phase, outgoing keys
-pub record Sending-stays (e f : Entry) : Type 0 where
-  pub count : f .next ≡ e .next
-  pub phase : f .phase ≡ e .phase
-  pub outgoing : f .outgoing ≡ e .outgoing
-
--- expected count, incoming keys
-pub record Receiving-stays (e f : Entry) : Type 0 where
-  pub count : f .expected ≡ e .expected
-  pub incoming : f .incoming ≡ e .incoming
+  pub top : f .top ≡ e .top
 
 -- ---- errors
 
@@ -79,16 +64,16 @@ pub record Accepts (us id : Text) (e : Entry) (m : Ksm) (a : After) : Type 0 whe
   pub answered : a .outcome .answer ≡ 0
   pub later : Entry
   pub entry : entry-of id (a .table) ≡ some later
-  pub expected : later .expected ≡ m .ctp + 1
-  pub incoming : Brings e m (later .incoming)
+  pub expected : later .receiving .expected ≡ m .ctp + 1
+  pub incoming : Brings e m (later .receiving .incoming)
   pub key-stays : Key-stays e later
-  pub sending-stays : Sending-stays e later
+  pub sending-stays : later .sending ≡ e .sending
   pub iv : Option ℕ
   pub returned : a .outcome .told ≡ keys iv (m .edk)
-  pub value : Returns-iv m (later .incoming) iv
+  pub value : Returns-iv m (later .receiving .incoming) iv
   pub message : Rsm
   pub written : Carries us id (rsm message) (a .outcome .reply)
-  pub sealed : Sealed (later .incoming) (a .outcome .reply) (message .mac)
+  pub sealed : Sealed (later .receiving .incoming) (a .outcome .reply) (message .mac)
 
 -- ---- an RSM is taken, an ESM breaks
 
@@ -99,11 +84,11 @@ pub record Confirms (id : Text) (e : Entry) (a : After) : Type 0 where
   pub told : a .outcome .told ≡ confirmation
   pub later : Entry
   pub entry : entry-of id (a .table) ≡ some later
-  pub phase : later .phase ≡ confirmed
-  pub next : later .next ≡ e .next
-  pub outgoing : later .outgoing ≡ e .outgoing
+  pub phase : later .sending .phase ≡ confirmed
+  pub next : later .sending .next ≡ e .sending .next
+  pub outgoing : later .sending .outgoing ≡ e .sending .outgoing
   pub key-stays : Key-stays e later
-  pub receiving-stays : Receiving-stays e later
+  pub receiving-stays : later .receiving ≡ e .receiving
 
 -- phase 3, outgoing keys wiped, this next send count
 pub record Breaks (id : Text) (e : Entry) (count : ℕ) (a : After) : Type 0 where
@@ -111,11 +96,11 @@ pub record Breaks (id : Text) (e : Entry) (count : ℕ) (a : After) : Type 0 whe
   pub silent : a .outcome .reply ≡ []
   pub later : Entry
   pub entry : entry-of id (a .table) ≡ some later
-  pub phase : later .phase ≡ broken
-  pub outgoing : later .outgoing ≡ no-keys
-  pub next : later .next ≡ count
+  pub phase : later .sending .phase ≡ broken
+  pub outgoing : later .sending .outgoing ≡ no-keys
+  pub next : later .sending .next ≡ count
   pub key-stays : Key-stays e later
-  pub receiving-stays : Receiving-stays e later
+  pub receiving-stays : later .receiving ≡ e .receiving
 
 -- with CTP x the larger of itself and x
 abbrev pub raised-to : ℕ → Option ℕ → ℕ
@@ -149,10 +134,10 @@ pub record Keeps (q : Request) (set : KeySet) : Type 0 where
 -- a KD: the key under the top key offset by the next send count; P, IDK1 and IDK2 (always the entry's key name) as the
 -- flags say
 pub record Writes-key (e : Entry) (r : KeyRequest) (k : Kd) : Type 0 where
-  pub key : k .key ≡ seal (working (top-of e) (e .next)) (r .key)
+  pub key : k .key ≡ seal (working (top-of (e .top)) (e .sending .next)) (r .key)
   pub p : Marked (r .flags % 2) (k .p)
   pub idk1 : Asked (bare (r .name .bytes)) (r .flags / 2 % 2) (k .idk1)
-  pub idk2 : Asked (bare (e .name .bytes)) (r .flags / 4 % 2) (k .idk2)
+  pub idk2 : Asked (bare (e .top .name .bytes)) (r .flags / 4 % 2) (k .idk2)
 
 -- the IV: none, P and the value, or E and the value enciphered
 pub data Writes-iv (q : Request) (set : KeySet) : ℕ → Option Text → Type 0 where
@@ -167,7 +152,7 @@ pub record Writes-fields (e : Entry) (q : Request) (set : KeySet) (m : Ksm) : Ty
   pub two : q .count ≡ 2 → (k : Kd) × (m .second ≡ some k) × Writes-key e (q .second) k
   pub iv : Writes-iv q set (q .kind) (m .iv)
   pub date : Asked (q .date .digits) (q .dated) (m .edk)
-  pub count : m .ctp ≡ e .next
+  pub count : m .ctp ≡ e .sending .next
 
 -- a message with the next send count, which rises by one, and its MAC; outgoing keys set; phase 1
 pub record Builds (us id : Text) (e : Entry) (q : Request) (a : After) : Type 0 where
@@ -175,12 +160,12 @@ pub record Builds (us id : Text) (e : Entry) (q : Request) (a : After) : Type 0 
   pub told : a .outcome .told ≡ nothing
   pub later : Entry
   pub entry : entry-of id (a .table) ≡ some later
-  pub next : later .next ≡ e .next + 1
-  pub phase : later .phase ≡ waiting
-  pub outgoing : Keeps q (later .outgoing)
+  pub next : later .sending .next ≡ e .sending .next + 1
+  pub phase : later .sending .phase ≡ waiting
+  pub outgoing : Keeps q (later .sending .outgoing)
   pub key-stays : Key-stays e later
-  pub receiving-stays : Receiving-stays e later
+  pub receiving-stays : later .receiving ≡ e .receiving
   pub message : Ksm
   pub written : Carries us id (ksm message) (a .outcome .reply)
-  pub fields : Writes-fields e q (later .outgoing) message
-  pub sealed : Sealed (later .outgoing) (a .outcome .reply) (message .mac)
+  pub fields : Writes-fields e q (later .sending .outgoing) message
+  pub sealed : Sealed (later .sending .outgoing) (a .outcome .reply) (message .mac)

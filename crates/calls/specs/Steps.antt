@@ -37,9 +37,9 @@ pub record Partners (t u : Table) (e f : Entry) : Type 0 where
   pub theirs : legal u ≡ true
   pub our-entry : entry-of (bare (u .own)) t ≡ some e
   pub their-entry : entry-of (bare (t .own)) u ≡ some f
-  pub same-top : top-of e ≡ top-of f
-  pub same-name : e .name ≡ f .name
-  pub in-step : f .expected ≤ e .next
+  pub same-top : top-of (e .top) ≡ top-of (f .top)
+  pub same-name : e .top .name ≡ f .top .name
+  pub in-step : f .receiving .expected ≤ e .sending .next
 
 -- the KSM is built, it is received, and the reply to it is received
 abbrev pub after-built : Table → Table → Request → ℕ → After
@@ -68,11 +68,11 @@ pub record Exchanged (t u : Table) (e : Entry) (q : Request) (room : ℕ) : Type
   pub theirs : Entry
   pub our-entry : entry-of (bare (u .own)) (after-confirmed t u q room .table) ≡ some ours
   pub their-entry : entry-of (bare (t .own)) (after-taken t u q room .table) ≡ some theirs
-  pub phase : ours .phase ≡ confirmed
-  pub keys : Keeps q (ours .outgoing)
-  pub same-keys : theirs .incoming ≡ ours .outgoing
-  pub sent : ours .next ≡ e .next + 1
-  pub accepted : theirs .expected ≡ e .next + 1
+  pub phase : ours .sending .phase ≡ confirmed
+  pub keys : Keeps q (ours .sending .outgoing)
+  pub same-keys : theirs .receiving .incoming ≡ ours .sending .outgoing
+  pub sent : ours .sending .next ≡ e .sending .next + 1
+  pub accepted : theirs .receiving .expected ≡ e .sending .next + 1
 
 pub record Steps : Type 0 where
   -- ---- a KSM
@@ -93,9 +93,9 @@ pub record Steps : Type 0 where
       → Carries id (bare (t .own)) (ksm m) text
       → ((k : Kd) → Kd-of m k → Ours e k) → ((k : Kd) → Kd-of m k → Even-only-unmarked e m k) → Brings e m set
       → Judged (Formed-ksm set m) formed → Judged (Sealed set text (m .mac)) sealed
-      → Judged (In-turn (e .expected) (m .ctp)) counted → formed && sealed && counted ≡ false
+      → Judged (In-turn (e .receiving .expected) (m .ctp)) counted → formed && sealed && counted ≡ false
       → Tells (bare (t .own)) id (unless formed (ascii "F") ++ (unless sealed (ascii "M") ++ unless counted (ascii "P")))
-      (told-unless counted (e .expected)) (told-unless counted (m .ctp)) (run t (receive room text) .outcome)
+      (told-unless counted (e .receiving .expected)) (told-unless counted (m .ctp)) (run t (receive room text) .outcome)
   -- each good KSM is accepted
   pub good-ksm-is-accepted : (t : Table) (room : ℕ) (text id : Text) (m : Ksm) (e : Entry) → Comes t room id e
       → Carries id (bare (t .own)) (ksm m) text
@@ -108,34 +108,34 @@ pub record Steps : Type 0 where
   -- not waiting, 5
   pub rsm-in-vain : (t : Table) (room : ℕ) (text id : Text) (m : Rsm) (e : Entry) → Comes t room id e
       → Carries id (bare (t .own)) (rsm m) text
-      → (e .phase ≡ waiting → ⊥) → run t (receive room text) .outcome ≡ refusal 5
+      → (e .sending .phase ≡ waiting → ⊥) → run t (receive room text) .outcome ≡ refusal 5
   -- MAC differs under the outgoing keys: 4 with M
   pub bad-rsm-is-M : (t : Table) (room : ℕ) (text id : Text) (m : Rsm) (e : Entry) → Comes t room id e
       → Carries id (bare (t .own)) (rsm m) text
-      → e .phase ≡ waiting → (Sealed (e .outgoing) text (m .mac) → ⊥)
+      → e .sending .phase ≡ waiting → (Sealed (e .sending .outgoing) text (m .mac) → ⊥)
       → Tells (bare (t .own)) id (ascii "M") none none (run t (receive room text) .outcome)
   -- otherwise 0, phase 2
   pub good-rsm-is-taken : (t : Table) (room : ℕ) (text id : Text) (m : Rsm) (e : Entry) → Comes t room id e
       → Carries id (bare (t .own)) (rsm m) text
-      → e .phase ≡ waiting → Sealed (e .outgoing) text (m .mac) → Confirms id e (run t (receive room text))
+      → e .sending .phase ≡ waiting → Sealed (e .sending .outgoing) text (m .mac) → Confirms id e (run t (receive room text))
   -- and no other
   pub taken-rsm-is-good : (t : Table) (room : ℕ) (text id : Text) (m : Rsm) (e : Entry)
       → Carries id (bare (t .own)) (rsm m) text → entry-of id t ≡ some e
       → run t (receive room text) .outcome .answer ≡ 0
-      → (e .phase ≡ waiting) × Sealed (e .outgoing) text (m .mac)
+      → (e .sending .phase ≡ waiting) × Sealed (e .sending .outgoing) text (m .mac)
   -- ---- an ESM
   -- not waiting, 5
   pub esm-in-vain : (t : Table) (room : ℕ) (text id : Text) (m : Esm) (e : Entry) → Comes t room id e
       → Carries id (bare (t .own)) (esm m) text
-      → (e .phase ≡ waiting → ⊥) → run t (receive room text) .outcome ≡ refusal 5
+      → (e .sending .phase ≡ waiting → ⊥) → run t (receive room text) .outcome ≡ refusal 5
   -- otherwise 0: phase 3, outgoing keys wiped; if it has CTP x, next send becomes the larger of itself and x
   pub esm-breaks : (t : Table) (room : ℕ) (text id : Text) (m : Esm) (e : Entry) → Comes t room id e
       → Carries id (bare (t .own)) (esm m) text
-      → e .phase ≡ waiting → Breaks id e (raised-to (e .next) (m .ctp)) (run t (receive room text))
+      → e .sending .phase ≡ waiting → Breaks id e (raised-to (e .sending .next) (m .ctp)) (run t (receive room text))
   -- and its letters are told
   pub esm-is-told : (t : Table) (room : ℕ) (text id : Text) (m : Esm) (e : Entry) → Comes t room id e
       → Carries id (bare (t .own)) (esm m) text
-      → e .phase ≡ waiting → run t (receive room text) .outcome .told ≡ failure (m .erf)
+      → e .sending .phase ≡ waiting → run t (receive room text) .outcome .told ≡ failure (m .erf)
   -- ---- an RSI: 0, the service wanted is returned; an option: 4 with O
   pub rsi-is-told : (t : Table) (room : ℕ) (text id : Text) (m : Rsi) (e : Entry) → Comes t room id e
       → Carries id (bare (t .own)) (rsi m) text
@@ -145,14 +145,14 @@ pub record Steps : Type 0 where
       → Tells (bare (t .own)) id (ascii "O") none none (run t (receive room text) .outcome)
   -- ---- build a KSM: 7, 8, 11, 12
   pub waiting-is-7 : (t : Table) (room : ℕ) (id : Text) (q : Request) (e : Entry) → Comes t room id e
-      → e .phase ≡ waiting → run t (about id (build-ksm room q)) .outcome ≡ refusal 7
+      → e .sending .phase ≡ waiting → run t (about id (build-ksm room q)) .outcome ≡ refusal 7
   pub spent-is-8 : (t : Table) (room : ℕ) (id : Text) (q : Request) (e : Entry) → Comes t room id e
-      → (e .phase ≡ waiting → ⊥) → e .next ≡ 99_999_999 → run t (about id (build-ksm room q)) .outcome ≡ refusal 8
+      → (e .sending .phase ≡ waiting → ⊥) → e .sending .next ≡ 99_999_999 → run t (about id (build-ksm room q)) .outcome ≡ refusal 8
   pub even-key-is-11 : (t : Table) (room : ℕ) (id : Text) (q : Request) (e : Entry) → Comes t room id e
-      → (e .phase ≡ waiting → ⊥) → (e .next ≡ 99_999_999 → ⊥) → (Odd-where-marked q → ⊥)
+      → (e .sending .phase ≡ waiting → ⊥) → (e .sending .next ≡ 99_999_999 → ⊥) → (Odd-where-marked q → ⊥)
       → run t (about id (build-ksm room q)) .outcome ≡ refusal 11
   pub malformed-is-12 : (t : Table) (room : ℕ) (id : Text) (q : Request) (e : Entry) → Comes t room id e
-      → (e .phase ≡ waiting → ⊥) → (e .next ≡ 99_999_999 → ⊥) → Odd-where-marked q → (Formed-request q → ⊥)
+      → (e .sending .phase ≡ waiting → ⊥) → (e .sending .next ≡ 99_999_999 → ⊥) → Odd-where-marked q → (Formed-request q → ⊥)
       → run t (about id (build-ksm room q)) .outcome ≡ refusal 12
   -- each good request is built
   pub good-request-is-built : (t : Table) (room : ℕ) (id : Text) (q : Request) (e : Entry) → Comes t room id e
@@ -162,9 +162,9 @@ pub record Steps : Type 0 where
       → entry-of id t ≡ some e → run t (about id (build-ksm room q)) .outcome .answer ≡ 0 → Good-request e q
   -- ---- give up: 5, else phase 3 and keys wiped
   pub give-up-in-vain : (t : Table) (id : Text) (e : Entry) → legal t ≡ true → entry-of id t ≡ some e
-      → (e .phase ≡ waiting → ⊥) → run t (about id give-up) .outcome ≡ refusal 5
+      → (e .sending .phase ≡ waiting → ⊥) → run t (about id give-up) .outcome ≡ refusal 5
   pub give-up-breaks : (t : Table) (id : Text) (e : Entry) → legal t ≡ true → entry-of id t ≡ some e
-      → e .phase ≡ waiting → Breaks id e (e .next) (run t (about id give-up))
+      → e .sending .phase ≡ waiting → Breaks id e (e .sending .next) (run t (about id give-up))
   -- ---- what one card builds the other accepts, and its reply is taken: both hold the keys
   pub exchange : (t u : Table) (e f : Entry) (q : Request) (room : ℕ) → Partners t u e f → Good-request e q → Sized q
       → 256 ≤ room → Exchanged t u e q room

@@ -14,9 +14,9 @@ use Rattle.keying.specs.declared.Top.the-variants.{Single}
 use Rattle.partner.specs.declared.Entry.{Entry}
 use Rattle.partner.specs.Entry.{name-of}
 use Rattle.partner.proofs.Naming.{length-filled}
-use Rattle.partner.specs.Record.{entry-bytes, put-entry}
+use Rattle.partner.specs.Record.{entry-size, entry-bytes, put-entry}
 use Rattle.partner.specs.Table.{Table, legal, started}
-use Rattle.image.specs.Image.{decode, encode}
+use Rattle.image.specs.Image.{largest, decode, encode}
 use Rattle.image.specs.Results.{delivered, size-delivered}
 use Rattle.image.proofs.Buffers.{delivered-room, started-size}
 use Rattle.calls.specs.Words.{if_then_else_}
@@ -27,7 +27,7 @@ use Rattle.calls.proofs.Tests.{if-true, if-false}
 use Rattle.outcome.specs.declared.Report.{Report}
 use Rattle.outcome.specs.Report.{report, replied, plain}
 use Rattle.card.specs.Over.{Written}
-use Rattle.card.specs.Whole.{body-of, ask-over, largest, start-over, delivering, top-in, load-with, load-over}
+use Rattle.card.specs.Whole.{body-of, ask-over, start-over, delivering, top-in, load-with, load-over}
 use Rattle.card.specs.Whole.{remove-over}
 use Rattle.card.specs.Ways.{top-or-zero, name-or-none}
 
@@ -143,12 +143,12 @@ delivered-so o s out out′ n r i p q room b k h =
 
 -- a record that there is room for is put
 pub put-so : (o : Outcome) (e : Entry) (l l′ : Text) (n : ℕ) (r : Report) → o ≡ success (entry-bytes e) nothing
-    → length (entry-bytes e) ≡ 156 → 156 ≤ length l → l′ ≡ put-entry e l .0 → n ≡ put-entry e l .1
+    → length (entry-bytes e) ≡ entry-size → entry-size ≤ length l → l′ ≡ put-entry e l .0 → n ≡ put-entry e l .1
     → r ≡ plain 0 0 n → Written o l r l′
 unfolding put-entry
 put-so o e l l′ n r p size room b k h =
-    let f : ltb (length l) 156 ≡ false = le-ltb (length l) 156 room in
-    let b′ : l′ ≡ entry-bytes e ++ drop 156 l = rw f at b in
-    let k′ : n ≡ 156 = rw f at k in
+    let f : ltb (length l) entry-size ≡ false = le-ltb (length l) entry-size room in
+    let b′ : l′ ≡ entry-bytes e ++ drop entry-size l = rw f at b in
+    let k′ : n ≡ entry-size = rw f at k in
     written-so o (entry-bytes e) l l′ n r p (k′ ∙ sym size)
     (b′ ∙ ap (λ (x : ℕ). entry-bytes e ++ drop x l) (sym size)) h

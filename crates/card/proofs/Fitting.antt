@@ -19,13 +19,14 @@ use Rattle.csm.specs.Message.{Body, Ksm, rsi, ksm, rsm, esm, option, legal-body
 use Rattle.csm.proofs.TextLaws.{within-true, all-weaker}
 use Rattle.csm.proofs.MessageLaws.{read-back, legal-parts as reading-parts}
 use Rattle.partner.specs.declared.KeySet.{KeySet}
+use Rattle.partner.specs.declared.Sending.{Sending}
 use Rattle.partner.specs.declared.Entry.{Entry}
 use Rattle.partner.specs.Entry.{limit, name-of, one-key, two-keys}
 use Rattle.partner.specs.Legal as partner
 use Rattle.partner.specs.Changes.{given-up, failed}
-use Rattle.partner.specs.Held.{HeldKey, HeldSet, Held}
+use Rattle.partner.specs.Held.{HeldKey, HeldSet, HeldSending, Held}
 use Rattle.partner.proofs.Holding.{held-name-of, held-one, held-two, held-accepted, held-issued, held-settled}
-use Rattle.partner.proofs.Holding.{held-given-up, held-failed}
+use Rattle.partner.proofs.Holding.{held-given-up, held-failed, held-with-sending, held-with-receiving}
 use Rattle.calls.specs.declared.KeyRequest.{KeyRequest}
 use Rattle.calls.specs.declared.Request.{Request}
 use Rattle.calls.specs.Words.{if_then_else_}
@@ -90,15 +91,17 @@ module _ (us : Text) (e : Entry) (h : Held e) where
   receive-held text (rsi m) l = h
   receive-held text (ksm m) l =
       by-case Fits _ _ _ (λ _. h) λ _. by-case Fits _ _ _ (λ _. h) λ _. by-case Fits _ _ _ (λ _. h) λ _.
-      held-accepted e h (m .ctp) (brought e m) (brought-held e m l)
+      held-with-receiving e _ h (held-accepted (m .ctp) (brought e m) (brought-held e m l))
   receive-held text (rsm m) l =
-      by-case Fits _ _ _ (λ _. h) λ _. by-case Fits _ _ _ (λ _. h) λ _. held-settled e h
-  receive-held text (esm m) l = by-case Fits _ _ _ (λ _. h) λ _. go (m .ctp) (esm-count m l)
+      by-case Fits _ _ _ (λ _. h) λ _. by-case Fits _ _ _ (λ _. h) λ _. held-with-sending e _ h (held-settled (e .sending) (h .sending))
+  receive-held text (esm m) l = by-case Fits _ _ _ (λ _. h) λ _.
+      held-with-sending e _ h (go (m .ctp) (esm-count m l))
     where
       go : (o : Option ℕ) → maybe-legal (field CTP) o ≡ true
-          → Held (elim o as (λ x. Entry) [ none ↦ given-up e | some x ↦ failed e x ])
-      go none b = held-given-up e h
-      go (some x) b = let k = within-true 1 limit x b in held-failed e h x (omega (arith, k .1))
+          → HeldSending (elim o as (λ x. Sending) [ none ↦ given-up (e .sending) | some x ↦ failed (e .sending) x ])
+      go none b = held-given-up (e .sending) (h .sending)
+      go (some x) b =
+          let k = within-true 1 limit x b in held-failed (e .sending) x (h .sending) (omega (arith, k .1))
   receive-held text (option c w) l = h
 
 -- ---- build a KSM, build an RSI, give up
@@ -125,7 +128,7 @@ module _ (us : Text) (e : Entry) (h : Held e) where
   build-ksm-held q s =
       by-case Fits _ _ _ (λ _. h) λ _. by-case Fits _ _ _ (λ _. h) λ _.
       by-case Fits _ _ _ (λ _. h) λ _. by-case Fits _ _ _ (λ _. h) λ f.
-      held-issued e h (outgoing-of q) (outgoing-held q s (formed q f .keys))
+      held-with-sending e _ h (held-issued (e .sending) (outgoing-of q) (outgoing-held q s (formed q f .keys)))
 
   build-rsi-held : (contents : Text) → Fits (building.build-rsi us e contents)
   unfolding building.build-rsi
@@ -140,7 +143,7 @@ module _ (us : Text) (e : Entry) (h : Held e) where
 
   give-up-held : Fits (building.give-up e)
   unfolding building.give-up
-  give-up-held = by-case Fits _ _ _ (λ _. h) (λ _. held-given-up e h)
+  give-up-held = by-case Fits _ _ _ (λ _. h) (λ _. held-with-sending e _ h (held-given-up (e .sending) (h .sending)))
 
 -- ---- together
 

@@ -16,7 +16,7 @@ use Rattle.csm.proofs.TextLaws.{none-some}
 use Rattle.partner.specs.declared.Entry.{Entry}
 use Rattle.partner.specs.Entry.{filled, name-of}
 use Rattle.partner.specs.Table.{Table, is-empty, identities}
-use Rattle.image.specs.Image.{decode}
+use Rattle.image.specs.Image.{largest, decode}
 use Rattle.image.proofs.Buffers.{started-as}
 use Rattle.image.proofs.Images.{rules}
 use Rattle.calls.specs.Words.{if_then_else_}
@@ -26,7 +26,7 @@ use Rattle.calls.specs.Good.{Good-identity}
 use Rattle.calls.specs.Refusals.{In-use}
 use Rattle.calls.proofs.Refusals.{refusals}
 use Rattle.card.specs.Over.{outcome-over}
-use Rattle.card.specs.Whole.{body-of, largest, delivering, top-in, load-with, load-over, remove-over}
+use Rattle.card.specs.Whole.{body-of, delivering, top-in, load-with, load-over, remove-over}
 use Rattle.card.specs.Ways.{top-or-zero, name-or-none}
 use Rattle.card.specs.Orders.{Orders}
 use Rattle.card.proofs.Keys.{key-of-no-length}
@@ -86,7 +86,7 @@ module _ (image : Text) (t : Table) (d : decode image ≡ some t) where
   slots-64 : length (t .slots) ≡ 64
   slots-64 = rules t (lawful-table image t d) .slots-64
 
-  module _ (room : ℕ) (roomy : 10_065 ≤ room) where
+  module _ (room : ℕ) (roomy : largest ≤ room) where
     removes : (id : Text) (a : After) → run t (about id remove) ≡ a → remove-over image room id ≡ delivering a
     removes id a h = remove-table image t d room id ∙ long-enough room largest _ roomy ∙ ap delivering h
 

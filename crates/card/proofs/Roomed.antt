@@ -11,10 +11,10 @@ use borrow.Author.Tests.{lt-ltb, le-ltb, ltb-true, ltb-false, eqb-false}
 use Rattle.octets.specs.Text.{Text}
 use Rattle.octets.specs.Part.{all-octets, found}
 use Rattle.keying.specs.declared.Top.{Top}
-use Rattle.partner.specs.Record.{entry-bytes}
+use Rattle.partner.specs.Record.{entry-size, entry-bytes}
 use Rattle.partner.specs.Changes.{left-of, right-of}
 use Rattle.partner.specs.Table.{Table, legal}
-use Rattle.image.specs.Image.{decode, encode, table-in}
+use Rattle.image.specs.Image.{largest, decode, encode, table-in}
 use Rattle.image.specs.Results.{added-slot, removed-slot}
 use Rattle.image.proofs.Images.{table-missing}
 use Rattle.calls.specs.Outcome.{Outcome, Turn, refusal, refused}
@@ -27,7 +27,7 @@ use Rattle.sight.specs.declared.Sight.{Sight}
 use Rattle.sight.specs.Aim.{at-free-slot, with-room, aim-of}
 use Rattle.turn.specs.Way.{take}
 use Rattle.turn.proofs.Ways.{way-roomed}
-use Rattle.card.specs.Whole.{ask-over, largest, delivering, top-in, load-with, load-over, remove-over}
+use Rattle.card.specs.Whole.{ask-over, delivering, top-in, load-with, load-over, remove-over}
 use Rattle.card.specs.Ways.{ours, aim, theirs, sought, blind, sighted, seen, turn-in, top-or-zero, top-of, name-with}
 use Rattle.image.proofs.Claims as stored
 use Rattle.card.proofs.Keys.{top-fits}
@@ -138,7 +138,7 @@ module _ (image id : Text) (room : ℕ) where
       judged-as (ask-table image (table-in image) d room id ∙ long-enough room 256 _ h) (ask-judged image d id room))
 
   pub ask-long : in-room Ask image id [] 256 room .outcome .answer ≡ 0 → all-octets image ≡ true
-      → length (entry-bytes (in-room Ask image id [] 256 room .entry)) ≡ 156
+      → length (entry-bytes (in-room Ask image id [] 256 room .entry)) ≡ entry-size
   unfolding aim-of
   ask-long h o =
       let r = was-roomy Ask image id [] 256 room h in

@@ -11,13 +11,13 @@ use Rattle.octets.specs.First.{then}
 use Rattle.partner.specs.declared.Name.{Name}
 use Rattle.partner.specs.Entry.{name-of}
 use Rattle.partner.specs.Table.{started}
-use Rattle.image.specs.Image.{encode}
+use Rattle.image.specs.Image.{largest, encode}
 use Rattle.image.specs.Results.{delivered, size-delivered}
 use Rattle.calls.specs.Outcome.{refusal}
 use Rattle.outcome.specs.declared.Report.{Report}
 use Rattle.outcome.specs.Report.{report, plain}
 use Rattle.card.specs.Over.{Written}
-use Rattle.card.specs.Whole.{largest, start-over}
+use Rattle.card.specs.Whole.{start-over}
 use Rattle.card.proofs.Delivering.{refused-so, delivered-so, start-short, start-malformed, start-done, start-fits}
 
 -- 6, 10

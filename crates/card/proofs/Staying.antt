@@ -21,7 +21,7 @@ use Rattle.partner.specs.Legal as partner
 use Rattle.partner.proofs.Holding.{held-name-of, held-loaded}
 use Rattle.partner.specs.Table.{Table, AllHeld, legal, is-empty, find, put, into-free-slot, behind}
 use Rattle.partner.proofs.Claims as entries
-use Rattle.image.specs.Image.{decode, encode, slot-bytes, slots-bytes}
+use Rattle.image.specs.Image.{partner-size, decode, encode, slot-bytes, slots-bytes}
 use Rattle.image.proofs.Entries.{empty-held, legal-full}
 use Rattle.image.proofs.Claims.{claims}
 use Rattle.calls.specs.Outcome.{Turn}
@@ -146,10 +146,10 @@ put-long id f (g ∷ slots) e q h = go (same (g .identity .bytes) id) q (put-lon
         length-append (slot-bytes g) (slots-bytes (put id f slots))
         ∙ ap (λ (n : ℕ). length (slot-bytes g) + n) (r q h) ∙ sym (length-append (slot-bytes g) (slots-bytes slots))
 
--- a legal entry's record has 157 bytes
-record-157 : (e : Entry) → partner.legal e ≡ true → Held e → length (slot-bytes e) ≡ 157
+-- a legal entry's record with its kind
+partner-record : (e : Entry) → partner.legal e ≡ true → Held e → length (slot-bytes e) ≡ partner-size
 unfolding slot-bytes
-record-157 e l h = rw (legal-full e l) (omega (arith, entries.claims .record-has-156-bytes e h))
+partner-record e l h = rw (legal-full e l) (omega (arith, entries.claims .record-has-156-bytes e h))
 
 module _ (image : Text) (t : Table) (d : decode image ≡ some t) (octets : all-octets image ≡ true) where
   abbrev As-long : After → Type 0
@@ -171,7 +171,7 @@ module _ (image : Text) (t : Table) (d : decode image ≡ some t) (octets : all-
           let h = find-held (filled id) (t .slots) e (claims .read-is-held image t octets d) (k .found) in
           let f = keeps e l h in
           let n = put-long (filled id) (turn e .entry) (t .slots) e (k .found)
-          (record-157 (turn e .entry) (f .lawful) (f .held) ∙ sym (record-157 e l h)) in
+          (partner-record (turn e .entry) (f .lawful) (f .held) ∙ sym (partner-record e l h)) in
           ap suc (length-append (t .own) (slots-bytes (put (filled id) (turn e .entry) (t .slots)))
           ∙ ap (λ (m : ℕ). length (t .own) + m) n ∙ sym (length-append (t .own) (slots-bytes (t .slots)))) ∙ unchanged
 

@@ -12,7 +12,7 @@ use Rattle.octets.specs.Part.{bare, found}
 use Rattle.keying.specs.declared.Top.{Top}
 use Rattle.keying.specs.declared.Top.the-variants.{Single}
 use Rattle.partner.specs.Entry.{empty}
-use Rattle.image.specs.Image.{decode, slots-in}
+use Rattle.image.specs.Image.{front-size, decode, slots-in}
 use Rattle.image.specs.Places.{own-in, slot-of, free-slot}
 use Rattle.image.specs.Results.{put-slot}
 use Rattle.calls.specs.Outcome.{Turn}
@@ -55,7 +55,7 @@ sighted a image = record {
   taken = ltb (theirs a image) 64;
   there = ltb (sought a image) 64;
   at = sought a image;
-  entry = getD (slots-in 64 (drop 17 image)) (sought a image) empty;
+  entry = getD (slots-in 64 (drop front-size image)) (sought a image) empty;
 }
 
 unfoldable pub seen : Aim → Text → Sight

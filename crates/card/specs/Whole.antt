@@ -11,7 +11,7 @@ use Rattle.keying.specs.declared.Top.the-variants.{Single, Pair}
 use Rattle.partner.specs.declared.Entry.{Entry}
 use Rattle.partner.specs.Record.{entry-bytes}
 use Rattle.partner.specs.Table.{Table}
-use Rattle.image.specs.Image.{decode, encode}
+use Rattle.image.specs.Image.{largest, decode, encode}
 use Rattle.calls.specs.Words.{if_then_else_}
 use Rattle.calls.specs.Outcome.{Outcome, nothing, refusal, success}
 use Rattle.calls.specs.Calls.{After, about, remove, load, entry-of, bad-identity, run, start}
@@ -31,11 +31,7 @@ ask-over image room id =
       | some t ↦ if ltb room 256 then refusal 6 else body-of (entry-of id t)
     ]
 
--- ---- whole images
-
--- largest image: 10,065 bytes; less room is 6
-abbrev pub largest : ℕ
-largest = 10_065
+-- ---- whole images: less room than the largest has is 6
 
 -- start: 6, 10; then the image of the new table
 unfoldable pub start-over : Text → ℕ → Outcome

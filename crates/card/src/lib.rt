@@ -19,9 +19,6 @@ use sight::aims;
 use sight::aims::Act;
 use sight::aims::Aim;
 
-// The largest image.
-const LARGEST: usize = 10_065;
-
 // ---- the way
 
 // Whom a call is about.
@@ -126,7 +123,7 @@ pub fn ask(image: &[u8], partner: &[u8], reply: &mut [u8]) -> Report
 pub fn start(own: &[u8], out: &mut [u8]) -> Report
     ensures { λ r. ⌜ over.Written (whole.start-over (now (own .entry)) (length (now (out .entry)))) (now (out .entry)) r (now (out .exit)) ⌝ }
 {
-    let room = octets::then(0, out.len() < LARGEST, 6);
+    let room = octets::then(0, out.len() < image::LARGEST, 6);
     let answer = octets::then(room, !octets::is_name(own), 10);
     if answer != 0 {
         return outcome::refusal(answer);
@@ -141,7 +138,7 @@ pub fn load(image: &[u8], partner: &[u8], name: &[u8], key: &[u8], out: &mut [u8
     let top = key::top_of(key);
     let act = Act::Load(top);
     let named = key::name_with(name, key);
-    let aim = aim_in(image, partner, act, named, LARGEST);
+    let aim = aim_in(image, partner, act, named, image::LARGEST);
     let found = find(image, aim, act, named, out.len());
     if found.answer != 0 {
         return outcome::refusal(found.answer);
@@ -155,7 +152,7 @@ pub fn remove(image: &[u8], partner: &[u8], out: &mut [u8]) -> Report
     ensures { λ r. ⌜ over.Written (whole.remove-over (now (image .entry)) (length (now (out .entry))) (now (partner .entry))) (now (out .entry)) r (now (out .exit)) ⌝ }
 {
     let act = Act::Remove;
-    let aim = aim_in(image, partner, act, b"", LARGEST);
+    let aim = aim_in(image, partner, act, b"", image::LARGEST);
     let found = find(image, aim, act, b"", out.len());
     if found.answer != 0 {
         return outcome::refusal(found.answer);

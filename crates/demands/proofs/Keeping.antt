@@ -6,13 +6,12 @@ use mathlib.Core.Option.{Option, none, some}
 use Prim.Native.Nat.{ℕ, _^_, _<_, _≤_}
 use native.Mathlib.Omega.{arith}
 use lib.Dec.{eqb, ltb}
-use lib.ListN.{length, drop, length-take}
+use lib.ListN.{length}
 use borrow.Author.Tests.{eqb-true, eqb-false}
 use Rattle.octets.specs.Text.{Text}
 use Rattle.octets.specs.Part.{bare, all-octets}
-use Rattle.octets.specs.Number.{number}
-use Rattle.octets.proofs.Comparing.{all-append, octets-part}
-use Rattle.octets.proofs.Numbers.{number-fits}
+use Rattle.octets.proofs.Comparing.{all-append}
+use Rattle.octets.proofs.Codecs.{fits-read}
 use Rattle.keying.specs.declared.Top.{Top}
 use Rattle.csm.specs.Message.{Body, rsi, ksm, rsm, esm, option, Reading, read}
 use Rattle.csm.proofs.Claims as text
@@ -32,7 +31,7 @@ use Rattle.calls.specs.Calls as steps
 use Rattle.calls.specs.Claims.{Carries, Answers-text, Answers, Writes, Sized, subject}
 use Rattle.calls.proofs.Claims as call
 use Rattle.calls.proofs.Tables.{legal-parts, own-name, entry-held}
-use Rattle.sight.specs.Request.{no-request, part, whole-in, request-in}
+use Rattle.sight.specs.Request.{no-request, request-layout, request-size, whole-in, request-in}
 use Rattle.card.specs.Whole.{top-in}
 use Rattle.card.specs.Claims.{Of-64-bits}
 use Rattle.card.proofs.Fitting.{name-octets}
@@ -43,16 +42,14 @@ use Rattle.demands.specs.Terms.{Bytes, Of-bytes, loading, step-of}
 
 -- ---- numbers of 64 bits
 
-eight : (s : Text) (at : ℕ) → Bytes s → number (part 8 at s) < 2 ^ 64
-eight s at o =
-    omega (arith, number-fits (part 8 at s) (octets-part s at 8 o) (omega (arith, length-take 8 (drop at s))))
-
 pub request-sized : (s : Text) → Bytes s → Sized (request-in s)
 unfolding request-in whole-in
-request-sized s o = go (eqb (length s) 73)
+request-sized s o = go (eqb (length s) request-size)
   where
     go : (b : Bool) → Sized (cond b (whole-in s) no-request)
-    go true = record { first = eight s 1 o; second = eight s 26 o; iv = eight s 52 o }
+    go true =
+        let f = fits-read request-layout 0 s o in
+        record { first = f .1 .0 .0; second = f .1 .1 .0 .0; iv = f .1 .1 .1 .1 .0 }
     go false = record { first = omega arith; second = omega arith; iv = omega arith }
 
 pub step-fits : (c : Call) (room : ℕ) (d : steps.Call) → Of-bytes c → step-of room c ≡ some d → Of-64-bits d

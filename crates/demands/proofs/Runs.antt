@@ -142,7 +142,7 @@ module _ (a b name : Text) (top : Top) where
   }
 
   pub agreement : {h₀ h : Hosts} → Afresh a b name top h₀ → Reach a b name top h₀ h → Distinct a b name top h
-      → (for-b : Entry) → entry-stored (h .a) b ≡ some for-b → for-b .phase ≡ confirmed → Agreed a b name top h for-b
+      → (for-b : Entry) → entry-stored (h .a) b ≡ some for-b → for-b .sending .phase ≡ confirmed → Agreed a b name top h (for-b .sending)
   agreement {h₀} {h} f r distinct for-b there phase =
       let k = cards f r in
       let g = claims a b name top .agreement (fresh-state h₀ f) (k .reached) distinct for-b
@@ -155,25 +155,23 @@ module _ (a b name : Text) (top : Top) where
         carried = g .carried;
         for-a = g .for-a;
         held = stored-of (h .b) a (k .b-table) (k .b-is) ∙ g .held;
-        keys = g .keys;
-        next-send = g .next-send;
-        expected = g .expected;
+        in-step = g .in-step;
         counted-by-b = g .accepted;
       }
 
   pub as-told : {h₀ h : Hosts} → Afresh a b name top h₀ → Reach a b name top h₀ h → Distinct a b name top h
       → (first second : Text) → 256 ≤ length second → leaves (h .a) first (ask b) .answer ≡ 0
-      → entry-told (h .a) first b .phase ≡ confirmed
+      → entry-told (h .a) first b .sending .phase ≡ confirmed
       → (leaves (h .b) second (ask a) .answer ≡ 0)
-      × (entry-told (h .b) second a .incoming ≡ entry-told (h .a) first b .outgoing)
-      × (entry-told (h .b) second a .expected ≡ entry-told (h .a) first b .next)
+      × (entry-told (h .b) second a .receiving .incoming ≡ entry-told (h .a) first b .sending .outgoing)
+      × (entry-told (h .b) second a .receiving .expected ≡ entry-told (h .a) first b .sending .next)
   as-told {h = h} f r distinct first second roomy z phase =
       let k = cards f r in
       let g = agreement f r distinct (entry-told (h .a) first b) (told-is-stored (h .a) first b (k .a-bytes) z) phase in
       let t = entry-is-told (h .b) second a (k .b-bytes) (g .for-a) roomy (g .held) in (
         t .0,
-        ap (λ (e : Entry). e .incoming) (t .1) ∙ g .keys,
-        ap (λ (e : Entry). e .expected) (t .1) ∙ g .expected ∙ sym (g .next-send),
+        ap (λ (e : Entry). e .receiving .incoming) (t .1) ∙ g .in-step .keys,
+        ap (λ (e : Entry). e .receiving .expected) (t .1) ∙ g .in-step .expected ∙ sym (g .in-step .next-send),
       )
 
   pub rise : {h₀ h : Hosts} → Afresh a b name top h₀ → Reach a b name top h₀ h → Rising (h .accepted)

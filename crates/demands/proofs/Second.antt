@@ -16,7 +16,7 @@ use Rattle.partner.specs.Entry.{name-of}
 use Rattle.partner.specs.Record.{entry-in}
 use Rattle.partner.proofs.Claims.{claims}
 use Rattle.partner.specs.Table.{Table, legal, started}
-use Rattle.image.specs.Image.{decode}
+use Rattle.image.specs.Image.{largest, decode}
 use Rattle.image.proofs.Claims as stored
 use Rattle.calls.specs.declared.Request.{Request}
 use Rattle.calls.specs.Words.{if_then_else_}
@@ -34,7 +34,6 @@ use Rattle.calls.proofs.Numbers.{numbers}
 use Rattle.outcome.specs.Report.{report}
 use Rattle.host.specs.Report.{report-bytes}
 use Rattle.sight.specs.Request.{request-in}
-use Rattle.card.specs.Whole.{largest}
 use Rattle.card.proofs.Tables.{own-is}
 use Rattle.demands.specs.Face.{Call, receive, build-ksm, ask, Left, left, leaves, start-leaves, put-out, kept}
 use Rattle.demands.specs.Terms.{Bytes, Of-bytes, our-identity, in-table, entry-stored, entry-told, refused}

@@ -16,7 +16,7 @@ use Rattle.partner.specs.declared.Entry.{Entry}
 use Rattle.partner.specs.Entry.{name-of}
 use Rattle.partner.specs.Record.{entry-bytes}
 use Rattle.partner.specs.Table.{Table, legal, started}
-use Rattle.image.specs.Image.{decode, encode}
+use Rattle.image.specs.Image.{largest, decode, encode}
 use Rattle.image.proofs.Claims as stored
 use Rattle.calls.specs.Words.{if_then_else_}
 use Rattle.calls.specs.Outcome.{Outcome, nothing, refusal, success}
@@ -27,7 +27,7 @@ use Rattle.calls.proofs.Tests.{if-true, if-false}
 use Rattle.calls.proofs.Refusals.{refusals}
 use Rattle.sight.specs.Request.{request-in}
 use Rattle.card.specs.Over.{outcome-over, image-over}
-use Rattle.card.specs.Whole.{body-of, ask-over, largest, start-over, delivering, top-in, load-with, load-over, remove-over}
+use Rattle.card.specs.Whole.{body-of, ask-over, start-over, delivering, top-in, load-with, load-over, remove-over}
 use Rattle.line.specs.Line.{_∈_}
 use Rattle.demands.specs.Face.{Call, receive, build-ksm, build-rsi, ask, give-up, load, remove, Left, left, over-image}
 use Rattle.demands.specs.Face.{leaves, start-leaves}

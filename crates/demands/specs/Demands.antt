@@ -15,7 +15,7 @@ use Rattle.partner.specs.declared.Entry.{Entry}
 use Rattle.partner.specs.Entry.{confirmed}
 use Rattle.partner.specs.Claims as partner
 use Rattle.partner.specs.Table.{Table}
-use Rattle.image.specs.Image.{decode}
+use Rattle.image.specs.Image.{largest, decode}
 use Rattle.image.specs.Claims as image
 use Rattle.calls.specs.Calls.{run}
 use Rattle.calls.specs.Calls as paper
@@ -25,7 +25,7 @@ use Rattle.calls.specs.Steps as step
 use Rattle.calls.specs.Refusals as refusing
 use Rattle.calls.specs.Numbers as numbers
 use Rattle.sight.specs.Request.{request-in}
-use Rattle.card.specs.Whole.{largest, top-in}
+use Rattle.card.specs.Whole.{top-in}
 use Rattle.line.specs.Line.{_∈_, Rising}
 use Rattle.line.specs.Line as line
 use Rattle.demands.specs.Face.{Call, receive, ask, load, leaves, start-leaves, put-out, kept}
@@ -117,14 +117,14 @@ pub record Demand-2 : Type 0 where
 pub record Demand-3 (a b name : Text) (top : Top) : Type 0 where
   -- whenever A's image says confirmed for B, B's image holds those very keys
   pub agreement : {h₀ h : Hosts} → Afresh a b name top h₀ → Reach a b name top h₀ h → Distinct a b name top h
-      → (for-b : Entry) → entry-stored (h .a) b ≡ some for-b → for-b .phase ≡ confirmed → Agreed a b name top h for-b
+      → (for-b : Entry) → entry-stored (h .a) b ≡ some for-b → for-b .sending .phase ≡ confirmed → Agreed a b name top h (for-b .sending)
   -- and so by what the cards tell: asked for B, A tells confirmed; asked for A, B tells those keys under that count
   pub as-told : {h₀ h : Hosts} → Afresh a b name top h₀ → Reach a b name top h₀ h → Distinct a b name top h
       → (first second : Text) → 256 ≤ length second → leaves (h .a) first (ask b) .answer ≡ 0
-      → entry-told (h .a) first b .phase ≡ confirmed
+      → entry-told (h .a) first b .sending .phase ≡ confirmed
       → (leaves (h .b) second (ask a) .answer ≡ 0)
-      × (entry-told (h .b) second a .incoming ≡ entry-told (h .a) first b .outgoing)
-      × (entry-told (h .b) second a .expected ≡ entry-told (h .a) first b .next)
+      × (entry-told (h .b) second a .receiving .incoming ≡ entry-told (h .a) first b .sending .outgoing)
+      × (entry-told (h .b) second a .receiving .expected ≡ entry-told (h .a) first b .sending .next)
   -- the counts that B accepts from A strictly rise
   pub rise : {h₀ h : Hosts} → Afresh a b name top h₀ → Reach a b name top h₀ h → Rising (h .accepted)
   -- afresh: just started, or just loaded for the other

@@ -8,6 +8,7 @@ use lib.Dec.{eqb}
 use Rattle.octets.specs.Text.{Text}
 use Rattle.keying.specs.declared.Top.{Top}
 use Rattle.csm.specs.Message.{Reading, Ksm, ksm, read}
+use Rattle.partner.specs.declared.Sending.{Sending}
 use Rattle.partner.specs.declared.Entry.{Entry}
 use Rattle.partner.specs.Entry.{confirmed}
 use Rattle.partner.specs.Table.{Table}
@@ -108,19 +109,17 @@ module _ (a b name : Text) (top : Top) where
   abbrev pub Distinct : Hosts → Type 0
   Distinct h = line.Distinct a b name top (h .from-a)
 
-  -- B's image holds the very keys of A's entry for it, with their names, under the count of the key message that
-  -- carried them
-  pub record Agreed (h : Hosts) (for-b : Entry) : Type 0 where
+  -- B's image holds the very keys of A's sending unit, with their names, under the count of the key message that carried
+  -- them
+  pub record Agreed (h : Hosts) (ours : Sending) : Type 0 where
     pub text : Text
     pub message : Ksm
     pub sent-by-a : text ∈ h .from-a
     pub reading : read text ≡ some (a-to-b a b name top (ksm message))
-    pub carried : brought (line.entry-for name top a) message ≡ for-b .outgoing
+    pub carried : brought (line.entry-for name top a) message ≡ ours .outgoing
     pub for-a : Entry
     pub held : entry-stored (h .b) a ≡ some for-a
-    pub keys : for-a .incoming ≡ for-b .outgoing
-    pub next-send : for-b .next ≡ message .ctp + 1
-    pub expected : for-a .expected ≡ message .ctp + 1
+    pub in-step : line.In-step ours (for-a .receiving) message
     pub counted-by-b : message .ctp ∈ h .accepted
 
   -- both cards have just been loaded for each other
@@ -136,5 +135,5 @@ module _ (a b name : Text) (top : Top) where
     pub distinct : Distinct later
     pub for-b : Entry
     pub held : entry-stored (later .a) b ≡ some for-b
-    pub phase : for-b .phase ≡ confirmed
-    pub keys : Keeps q (for-b .outgoing)
+    pub phase : for-b .sending .phase ≡ confirmed
+    pub keys : Keeps q (for-b .sending .outgoing)

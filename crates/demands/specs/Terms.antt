@@ -16,7 +16,7 @@ use Rattle.partner.specs.declared.Entry.{Entry}
 use Rattle.partner.specs.Entry.{confirmed}
 use Rattle.partner.specs.Record.{entry-in, entry-bytes}
 use Rattle.partner.specs.Table.{Table}
-use Rattle.image.specs.Image.{decode}
+use Rattle.image.specs.Image.{largest, decode}
 use Rattle.calls.specs.Words.{if_then_else_}
 use Rattle.calls.specs.Outcome.{Outcome, Told, nothing, keys, success}
 use Rattle.calls.specs.Calls.{After, entry-of}
@@ -26,7 +26,7 @@ use Rattle.calls.specs.Steps.{iv-asked, date-asked}
 use Rattle.outcome.specs.Report.{report, replied}
 use Rattle.host.specs.Report.{report-bytes}
 use Rattle.sight.specs.Request.{request-in}
-use Rattle.card.specs.Whole.{largest, delivering, top-in}
+use Rattle.card.specs.Whole.{delivering, top-in}
 use Rattle.demands.specs.Face.{Call, receive, build-ksm, build-rsi, ask, give-up, load, remove, Left, leaves}
 use Rattle.demands.specs.Face.{put-out, kept}
 
@@ -185,8 +185,8 @@ pub record Exchanged (x : Exchange) (e : Entry) : Type 0 where
   pub theirs : Entry
   pub our-entry : entry-stored (confirming x .image) (x .partner) ≡ some ours
   pub their-entry : entry-stored (taken x .image) (our-identity (x .a)) ≡ some theirs
-  pub phase : ours .phase ≡ confirmed
-  pub requested : Keeps (request-in (x .request)) (ours .outgoing)
-  pub same-keys : theirs .incoming ≡ ours .outgoing
-  pub sent : ours .next ≡ e .next + 1
-  pub accepted : theirs .expected ≡ e .next + 1
+  pub phase : ours .sending .phase ≡ confirmed
+  pub requested : Keeps (request-in (x .request)) (ours .sending .outgoing)
+  pub same-keys : theirs .receiving .incoming ≡ ours .sending .outgoing
+  pub sent : ours .sending .next ≡ e .sending .next + 1
+  pub accepted : theirs .receiving .expected ≡ e .sending .next + 1

@@ -3,5 +3,4 @@ pub mod DigitLaws
 pub mod TableLaws
 pub mod LetterLaws
 pub mod KeyLaws
-pub mod Within
 pub mod Determined

@@ -8,18 +8,22 @@ use native.Mathlib.Omega.{arith}
 use lib.ListN.{length, take, drop, length-append, length-drop}
 use lib.Seq.{drop-drop, length-take-le, take-at, drop-at, take-all}
 use Rattle.octets.specs.Text.{Text, blank, free, starts}
-use Rattle.octets.specs.Part.{before}
+use Rattle.octets.specs.Part.{before, found, part}
 use Rattle.octets.proofs.Parting.{before-at, free-before}
 use Rattle.csm.specs.Format.{Word, Format, bind, after, until, value, plain, upto, pre}
-use Rattle.csm.specs.Fields.{hex, join-halves, half-digits, check}
+use Rattle.csm.specs.Fields.{hex, half-digits, join-halves, check, mcl, kd, field, tag, KD, MCL}
 use Rattle.csm.proofs.TextLaws.{bind-some, after-back, until-back, until-at, until-none}
 use Rattle.csm.proofs.FormatLaws.{value-back}
 use Rattle.csm.proofs.WordTests.{plain-value}
-use Rattle.fields.specs.Seen.{piece-seen, number-seen}
-use Rattle.fields.specs.Steps.{piece, part-seen, alone}
-use Rattle.fields.specs.declared.Part.the-variants.{Between, Nothing}
-use Rattle.fields.specs.declared.Piece.the-variants as piece
+use Rattle.fields.specs.Seen.{taken, itself, span-of, next-of, place-of, nothing-at, number-seen, number-at, check-text}
+use Rattle.fields.specs.Seen.{kd-of, key-at, class-seen}
+use Rattle.fields.specs.Steps.{piece, kept, placed, joined, halves, key-seen, keyed-at}
+use Rattle.fields.specs.declared.Place.{Place}
+use Rattle.fields.specs.declared.Number.{Number}
 use Rattle.fields.specs.declared.Number.the-variants as number
+use Rattle.fields.specs.declared.keys.Keyed.{Keyed}
+use Rattle.fields.specs.declared.NumberField.{NumberField}
+use Rattle.fields.specs.declared.KeyField.{KeyField}
 
 -- ---- the piece behind a tag
 
@@ -44,21 +48,24 @@ until-end x s h =
 -- the blank stands at `to`
 pub piece-between : (tag s : Text) (at from to : ℕ) → starts tag (drop at s) ≡ true → from ≡ at + length tag
     → to ≡ from + before blank (drop from s) → to < length s
-    → part-seen (at + length tag) (piece tag (drop at s)) ≡ Between from to
+    → place-of itself at tag (taken (piece tag (drop at s)))
+    ≡ record { there = true; span = record { at = from; length = to - from }; next = to + 1 }
 piece-between tag s at from to e f t h =
     let u = drop from s in
     let l = length-drop from s in
     let n : before blank u < length u = omega arith in
     let b : piece tag (drop at s) ≡ until blank u =
     behind-tag tag s at e ∙ ap (λ (i : ℕ). until blank (drop i s)) (sym f) in
-    let k : from + length (take (before blank u) u) ≡ to =
+    let k : length (take (before blank u) u) ≡ to - from =
     omega (arith, length-take-le (before blank u) u (omega arith)) in
-    rw (b, until-before blank u n, ← f, k)
+    let m : at + length tag + length (take (before blank u) u) + 1 ≡ to + 1 = omega arith in
+    ap (λ o. place-of itself at tag (taken o)) (b ∙ until-before blank u n)
+    ∙ (λ i. record { there = true; span = record { at = sym f i; length = k i }; next = m i })
 
 -- there is no blank
 pub piece-endless : (tag s : Text) (at from to : ℕ) → starts tag (drop at s) ≡ true → from ≡ at + length tag
     → to ≡ from + before blank (drop from s) → length s ≤ to
-    → part-seen (at + length tag) (piece tag (drop at s)) ≡ Nothing
+    → place-of itself at tag (taken (piece tag (drop at s))) ≡ nothing-at at
 piece-endless tag s at from to e f t h =
     let u = drop from s in
     let l = length-drop from s in
@@ -68,53 +75,30 @@ piece-endless tag s at from to e f t h =
 
 -- ---- contents that were found
 
-pub record Found (tag s : Text) (at from to : ℕ) : Type 0 where
-  pub start : from ≡ at + length tag
-  pub ordered : from ≤ to
-  pub within : to < length s
-  pub is : piece tag (drop at s) ≡ some (take (to - from) (drop from s), drop (to + 1) s)
+pub record Found (tag s : Text) (at : ℕ) (w t : Text) : Type 0 where
+  pub within : next-of itself at tag (some w) ≤ length s
+  pub part : part s (span-of itself at tag (some w)) ≡ w
+  pub rest : t ≡ drop (next-of itself at tag (some w)) s
 
--- a text behind a tag, and its parts by their places
-cut : (tag s : Text) (at from to : ℕ) (p : Text × Text) → drop at s ≡ tag ++ (p .0 ++ blank ∷ p .1)
-    → from ≡ at + length tag → to ≡ from + length (p .0) → piece tag (drop at s) ≡ some p
-    → Found tag s at from to
-cut tag s at from to p e f t q =
-    let u : drop from s ≡ p .0 ++ blank ∷ p .1 =
-    ap (λ (i : ℕ). drop i s) f ∙ sym (drop-drop (length tag) at s) ∙ ap (drop (length tag)) e
-    ∙ drop-at tag (p .0 ++ blank ∷ p .1) (length tag) refl in
-    let n : to - from ≡ length (p .0) = omega arith in
-    let a : take (to - from) (drop from s) ≡ p .0 =
-    ap (take (to - from)) u ∙ take-at (p .0) (blank ∷ p .1) (to - from) (sym n) in
-    let m : to + 1 ≡ from + suc (length (p .0)) = omega arith in
-    let b : drop (to + 1) s ≡ p .1 =
-    ap (λ (i : ℕ). drop i s) m ∙ sym (drop-drop (suc (length (p .0))) from s)
-    ∙ ap (drop (suc (length (p .0)))) u ∙ behind (p .0) in
+pub found-piece : (tag s : Text) (at : ℕ) (w t : Text) → piece tag (drop at s) ≡ some (w, t) → Found tag s at w t
+unfolding piece part
+found-piece tag s at w t q =
+    let h = bind-some (after tag (drop at s)) (until blank) (w, t) q in
+    let e : drop at s ≡ tag ++ (w ++ blank ∷ t) =
+    after-back tag (drop at s) (h .0) (h .1) ∙ ap (λ (u : Text). tag ++ u) (until-back blank (h .0) (w, t) (h .2)) in
+    let u : drop (at + length tag) s ≡ w ++ blank ∷ t =
+    sym (drop-drop (length tag) at s) ∙ ap (drop (length tag)) e ∙ drop-at tag (w ++ blank ∷ t) (length tag) refl in
+    let m : at + length tag + suc (length w) ≡ at + length tag + length w + 1 = omega arith in
     record {
-      start = f;
-      ordered = omega arith;
-      within = omega (arith, ap length u, length-drop from s, length-append (p .0) (blank ∷ p .1));
-      is = q ∙ (λ i. some (sym a i, sym b i));
+      within = omega (arith, ap length u, length-drop (at + length tag) s, length-append w (blank ∷ t));
+      part = ap (take (length w)) u ∙ take-at w (blank ∷ t) (length w) refl;
+      rest = sym (behind w) ∙ ap (drop (suc (length w))) (sym u)
+          ∙ drop-drop (suc (length w)) (at + length tag) s ∙ ap (λ (i : ℕ). drop i s) m;
     }
   where
-    behind : (w : Text) → drop (suc (length w)) (w ++ blank ∷ p .1) ≡ p .1
+    behind : (w : Text) → drop (suc (length w)) (w ++ blank ∷ t) ≡ t
     behind [] = refl
     behind (x ∷ w) = behind w
-
-pub found : (tag s : Text) (at from to : ℕ)
-    → part-seen (at + length tag) (piece tag (drop at s)) ≡ Between from to → Found tag s at from to
-unfolding piece
-found tag s at from to e = go (bind (after tag (drop at s)) (until blank)) refl e
-  where
-    go : (o : Option (Text × Text)) → bind (after tag (drop at s)) (until blank) ≡ o
-        → part-seen (at + length tag) o ≡ Between from to → Found tag s at from to
-    go none q e = let z : _≡_ {A = ℕ} 0 1 = cc in absurd (omega arith)
-    go (some p) q e =
-        let h = bind-some (after tag (drop at s)) (until blank) p q in
-        let f : at + length tag ≡ from = cc in
-        let t : at + length tag + length (p .0) ≡ to = cc in
-        let k : drop at s ≡ tag ++ (p .0 ++ blank ∷ p .1) =
-        after-back tag (drop at s) (h .0) (h .1) ∙ ap (λ (u : Text). tag ++ u) (until-back blank (h .0) p (h .2)) in
-        cut tag s at from to p k (sym f) (omega arith) q
 
 -- ---- what a field reads
 
@@ -129,66 +113,137 @@ module _ {A : Type 0} (c : Word A) (tag : Text) where
   unfolding piece
   field-read s = bind-bind (after tag s) (until blank) (λ p. bind (value c (p .0)) (λ a. some (a, p .1)))
 
-  pub field-missing : (s : Text) (from : ℕ) → part-seen from (piece tag s) ≡ Nothing
-      → pre tag (upto blank c) .read s ≡ none
-  field-missing s from e =
-      field-read s
-      ∙ ap (λ o. bind o (λ p. bind (value c (p .0)) (λ a. some (a, p .1)))) (missing (piece tag s) e)
+  pub field-taken : (s : Text) → taken (pre tag (upto blank c) .read s) ≡ bind (taken (piece tag s)) (value c)
+  field-taken s = ap taken (field-read s) ∙ go (piece tag s)
     where
-      missing : (o : Option (Text × Text)) → part-seen from o ≡ Nothing → o ≡ none
-      missing none e = refl
-      missing (some p) e = cc
+      one : (o : Option A) (t : Text) → taken (bind o (λ a. some (a, t))) ≡ o
+      one none t = refl
+      one (some a) t = refl
 
-  -- what is seen of a field that was found is what is seen of its contents
-  pub field-found : {B : Type 0} (f : Option (A × Text) → B) → ((a : A) (t : Text) → f (some (a, t)) ≡ f (some (a, [])))
-      → (s : Text) (at from to : ℕ) → Found tag s at from to
-      → f (pre tag (upto blank c) .read (drop at s)) ≡ f (alone (value c (take (to - from) (drop from s))))
-  field-found f same s at from to r =
-      ap f (field-read (drop at s)
-      ∙ ap (λ o. bind o (λ p. bind (value c (p .0)) (λ a. some (a, p .1)))) (r .is))
-      ∙ go (value c (take (to - from) (drop from s)))
-    where
-      go : (o : Option A) → f (bind o (λ a. some (a, drop (to + 1) s))) ≡ f (alone o)
+      go : (o : Option (Text × Text))
+          → taken (bind o (λ p. bind (value c (p .0)) (λ a. some (a, p .1)))) ≡ bind (taken o) (value c)
       go none = refl
-      go (some a) = same a (drop (to + 1) s)
+      go (some p) = one (value c (p .0)) (p .1)
+
+  -- what is seen of a field, from its contents as a part of the text
+  pub field-seen : {B : Type 0} (f : Option A → B) (g : Option Text → Option A → B) → f none ≡ g none (value c [])
+      → ((w : Text) → f (value c w) ≡ g (some w) (value c w)) → (s : Text) (at : ℕ)
+      → f (taken (pre tag (upto blank c) .read (drop at s)))
+      ≡ g (taken (piece tag (drop at s))) (value c (part s (span-of itself at tag (taken (piece tag (drop at s))))))
+  unfolding part
+  field-seen f g missing there s at = ap f (field-taken (drop at s)) ∙ go (piece tag (drop at s)) refl
+    where
+      go : (o : Option (Text × Text)) → piece tag (drop at s) ≡ o
+          → f (bind (taken o) (value c)) ≡ g (taken o) (value c (part s (span-of itself at tag (taken o))))
+      go none e = missing
+      go (some (w, t)) e =
+          there w ∙ ap (λ (u : Text). g (some w) (value c u)) (sym (found-piece tag s at w t e .part))
+
+pub number-none : (o : Option ℕ) → number-seen o ≡ number.Nothing → o ≡ none
+number-none none e = refl
+number-none (some n) e = cc
+
+pub number-some : (o : Option ℕ) (n : ℕ) → number-seen o ≡ number.Is n → o ≡ some n
+number-some none n e = absurd (let z : _≡_ {A = ℕ} 0 1 = cc in omega arith)
+number-some (some m) n e = cc
+
+-- contents that stand for a number
+number-found : (c : Word ℕ) (tag s : Text) (at : ℕ)
+    → number-at (c .text) at tag (taken (pre tag (upto blank c) .read (drop at s)))
+    ≡ placed at (place-of itself at tag (taken (piece tag (drop at s))))
+    (number-seen (value c (part s (span-of itself at tag (taken (piece tag (drop at s)))))))
+number-found c tag s at =
+    field-seen c tag (number-at (c .text) at tag) (λ o v. placed at (place-of itself at tag o) (number-seen v)) refl
+    (λ w. go w (value c w) refl) s at
+  where
+    go : (w : Text) (o : Option ℕ) → value c w ≡ o
+        → number-at (c .text) at tag o ≡ placed at (place-of itself at tag (some w)) (number-seen o)
+    go w none e = refl
+    go w (some n) e =
+        ap (λ (u : Text). record { value = n; place = place-of itself at tag (some u) }) (sym (value-back c w n e .1))
+
+-- the code's steps: the place, the part, its number
+pub number-read : (c : Word ℕ) (tag s : Text) (at : ℕ) {p : Place} {w : Text} {n : Number} {r : NumberField}
+    → p ≡ place-of itself at tag (taken (piece tag (drop at s))) → w ≡ part s (p .span) → n ≡ number-seen (value c w)
+    → r ≡ placed at p n → r ≡ number-at (c .text) at tag (taken (pre tag (upto blank c) .read (drop at s)))
+number-read c tag s at {p} e f g h =
+    h ∙ ap (placed at p) (g ∙ ap (λ (w : Text). number-seen (value c w)) f)
+    ∙ ap (λ (p : Place). placed at p (number-seen (value c (part s (p .span))))) e ∙ sym (number-found c tag s at)
 
 -- contents that stand for themselves
-pub plain-found : (f : Text → Bool) (tag s : Text) (at from to : ℕ) → Found tag s at from to
-    → (b : Bool) → f (take (to - from) (drop from s)) ≡ b
-    → piece-seen (pre tag (upto blank (plain f)) .read (drop at s)) ≡ cond b (piece.Length (to - from)) piece.Nothing
-plain-found f tag s at from to r b e =
-    let w = take (to - from) (drop from s) in
-    let i = r .ordered in
-    let j = r .within in
-    let l : length w ≡ to - from = length-take-le (to - from) (drop from s) (omega (arith, length-drop from s)) in
-    field-found (plain f) tag piece-seen (λ a t. refl) s at from to r
-    ∙ ap (λ o. piece-seen (alone o)) (plain-value f w ∙ ap (λ (t : Bool). cond t (some w) none) e)
-    ∙ go w b l
+run-found : (p : Text → Bool) (tag s : Text) (at : ℕ)
+    → place-of itself at tag (taken (pre tag (upto blank (plain p)) .read (drop at s)))
+    ≡ kept at (place-of itself at tag (taken (piece tag (drop at s))))
+    (p (part s (span-of itself at tag (taken (piece tag (drop at s))))))
+run-found p tag s at =
+    field-seen (plain p) tag (place-of itself at tag) (λ o v. kept at (place-of itself at tag o) (found v))
+    (either (found (value (plain p) []))) (λ w. ap (place-of itself at tag) (plain-value p w) ∙ go w (p w)
+    ∙ ap (kept at (place-of itself at tag (some w))) (sym (test w))) s at
+    ∙ ap (kept at (place-of itself at tag (taken (piece tag (drop at s)))))
+    (test (part s (span-of itself at tag (taken (piece tag (drop at s))))))
   where
-    go : (w : Text) (b : Bool) → length w ≡ to - from
-        → piece-seen (alone (cond b (some w) none)) ≡ cond b (piece.Length (to - from)) piece.Nothing
-    go w true l = ap piece.Length l
-    go w false l = refl
+    either : (b : Bool) → nothing-at at ≡ kept at (nothing-at at) b
+    either true = refl
+    either false = refl
 
--- ---- contents that stand for a number
+    found-when : (w : Text) (b : Bool) → found (cond b (some w) none) ≡ b
+    found-when w true = refl
+    found-when w false = refl
 
-module _ (c : Word ℕ) (w : Text) where
-  pub number-is : (n : ℕ) → value c w ≡ some n → number-seen c (alone (value c w)) ≡ number.Is n (length w)
-  number-is n e =
-      ap (λ o. number-seen c (alone o)) e ∙ ap (number.Is n) (sym (ap length (value-back c w n e .1)))
+    test : (w : Text) → found (value (plain p) w) ≡ p w
+    test w = ap found (plain-value p w) ∙ found-when w (p w)
 
-  pub number-not : value c w ≡ none → number-seen c (alone (value c w)) ≡ number.Nothing
-  number-not e = ap (λ o. number-seen c (alone o)) e
+    go : (w : Text) (b : Bool) → place-of itself at tag (cond b (some w) none) ≡ kept at (place-of itself at tag (some w)) b
+    go w true = refl
+    go w false = refl
+
+pub run-read : (f : Text → Bool) (tag s : Text) (at : ℕ) {p r : Place} {w : Text} {b : Bool}
+    → p ≡ place-of itself at tag (taken (piece tag (drop at s))) → w ≡ part s (p .span) → b ≡ f w → r ≡ kept at p b
+    → r ≡ place-of itself at tag (taken (pre tag (upto blank (plain f)) .read (drop at s)))
+run-read f tag s at {p} e g h k =
+    k ∙ ap (kept at p) (h ∙ ap f g) ∙ ap (λ (p : Place). kept at p (f (part s (p .span)))) e
+    ∙ sym (run-found f tag s at)
+
+-- the class
+pub class-found : (s : Text) (at : ℕ)
+    → class-seen (taken (field MCL .read (drop at s)))
+    ≡ class-seen (value mcl (part s (span-of itself at (tag MCL) (taken (piece (tag MCL) (drop at s))))))
+class-found = field-seen mcl (tag MCL) class-seen (λ o v. class-seen v) refl (λ w. refl)
+
+-- a KD
+key-found : (s : Text) (at : ℕ)
+    → let o = taken (piece (tag KD) (drop at s)) in
+    key-at at (taken (field KD .read (drop at s)))
+    ≡ keyed-at at (place-of itself at (tag KD) o)
+    (key-seen (span-of itself at (tag KD) o .at) (value kd (part s (span-of itself at (tag KD) o))))
+key-found s at =
+    field-seen kd (tag KD) (key-at at)
+    (λ o v. keyed-at at (place-of itself at (tag KD) o) (key-seen (span-of itself at (tag KD) o .at) v)) refl
+    (λ w. go w (value kd w) refl) s at
+  where
+    go : (w : Text) (o : Option _) → value kd w ≡ o
+        → key-at at o ≡ keyed-at at (place-of itself at (tag KD) (some w)) (key-seen (at + length (tag KD)) o)
+    go w none e = refl
+    go w (some k) e =
+        ap (λ (u : Text). record { kd = kd-of (at + length (tag KD)) k; place = place-of itself at (tag KD) (some u) })
+        (sym (value-back kd w k e .1))
+
+pub key-read : (s : Text) (at : ℕ) {p : Place} {w : Text} {k : Keyed} {r : KeyField}
+    → p ≡ place-of itself at (tag KD) (taken (piece (tag KD) (drop at s))) → w ≡ part s (p .span)
+    → k ≡ key-seen (p .span .at) (value kd w) → r ≡ keyed-at at p k → r ≡ key-at at (taken (field KD .read (drop at s)))
+key-read s at {p} e f g h =
+    h ∙ ap (keyed-at at p) (g ∙ ap (λ (w : Text). key-seen (p .span .at) (value kd w)) f)
+    ∙ ap (λ (p : Place). keyed-at at p (key-seen (p .span .at) (value kd (part s (p .span))))) e ∙ sym (key-found s at)
 
 -- ---- MAC, EDC: two halves
 
 abbrev pub half : Format ℕ
 half = upto blank (hex half-digits)
 
-abbrev pub joined : ℕ × Text → Option (ℕ × Text)
-joined p = bind (half .read (p .1)) (λ q. some (join-halves half-digits (p .0, q .0), q .1))
+abbrev pub both-halves : ℕ × Text → Option (ℕ × Text)
+both-halves p = bind (half .read (p .1)) (λ q. some (join-halves half-digits (p .0, q .0), q .1))
 
-pub check-read : (tag s : Text) → pre tag check .read s ≡ bind (pre tag half .read s) joined
+pub check-read : (tag s : Text) → pre tag check .read s ≡ bind (pre tag half .read s) both-halves
 check-read tag s = go (after tag s)
   where
     paired : ℕ → ℕ × Text → Option ((ℕ × ℕ) × Text)
@@ -203,10 +258,108 @@ check-read tag s = go (after tag s)
     second h (some q) = refl
 
     first : (o : Option (ℕ × Text))
-        → bind (bind o (λ p. bind (half .read (p .1)) (paired (p .0)))) whole ≡ bind o joined
+        → bind (bind o (λ p. bind (half .read (p .1)) (paired (p .0)))) whole ≡ bind o both-halves
     first none = refl
     first (some p) = second (p .0) (half .read (p .1))
 
-    go : (o : Option Text) → bind o (check .read) ≡ bind (bind o (half .read)) joined
+    go : (o : Option Text) → bind o (check .read) ≡ bind (bind o (half .read)) both-halves
     go none = refl
     go (some u) = first (half .read u)
+
+-- what is read of the second half
+abbrev with-first : ℕ → Option (ℕ × Text) → Option (ℕ × Text)
+with-first h o = bind o (λ q. some (join-halves half-digits (h, q .0), q .1))
+
+check-found : (tag s : Text) (at : ℕ)
+    → let p = place-of itself at tag (taken (piece tag (drop at s))) in
+    let q = place-of itself (p .next) [] (taken (piece [] (drop (p .next) s))) in
+    number-at check-text at tag (taken (pre tag check .read (drop at s)))
+    ≡ placed at (joined p q)
+    (number-seen (halves (value (hex half-digits) (part s (p .span))) (value (hex half-digits) (part s (q .span)))))
+unfolding part
+check-found tag s at =
+    ap (λ o. number-at check-text at tag (taken o))
+    (check-read tag (drop at s) ∙ ap (λ o. bind o both-halves) (field-read (hex half-digits) tag (drop at s)))
+    ∙ first (piece tag (drop at s)) refl
+  where
+    h4 : Word ℕ
+    h4 = hex half-digits
+
+    none-when : (b : Bool) → let r = number-at check-text at tag none in r ≡ cond b r r
+    none-when true = refl
+    none-when false = refl
+
+    -- both halves are four digits long
+    whole : (w v : Text) (h l : ℕ) → value h4 w ≡ some h → value h4 v ≡ some l → let next = next-of itself at tag (some w) in
+        number-at check-text at tag (some (join-halves half-digits (h, l)))
+        ≡ placed at (joined (place-of itself at tag (some w)) (place-of itself next [] (some v))) (number-seen (halves (some h) (some l)))
+    whole w v h l p q =
+        let m : length w ≡ 4 = ap length (value-back h4 w h p .1) in
+        let n : length v ≡ 4 = ap length (value-back h4 v l q .1) in
+        let k : at + length tag + 9 + 1 ≡ at + length tag + length w + 1 + 0 + length v + 1 = omega arith in
+        ap (λ (i : ℕ). record {
+          value = join-halves half-digits (h, l);
+          place = record { there = true; span = record { at = at + length tag; length = 9 }; next = i };
+        }) k
+
+    third : (w : Text) (h : ℕ) → value h4 w ≡ some h → let next = next-of itself at tag (some w) in
+        (o : Option (Text × Text)) → piece [] (drop next s) ≡ o
+        → number-at check-text at tag
+        (taken (with-first h (bind o (λ p. bind (value h4 (p .0)) (λ a. some (a, p .1))))))
+        ≡ placed at (joined (place-of itself at tag (some w)) (place-of itself next [] (taken o)))
+        (number-seen (halves (some h) (value h4 (part s (span-of itself next [] (taken o))))))
+    third w h p none e = refl
+    third w h p (some (v, t)) e =
+        let next = next-of itself at tag (some w) in
+        go (value h4 v) refl
+        ∙ ap (λ (u : Text). placed at (joined (place-of itself at tag (some w)) (place-of itself next [] (some v)))
+        (number-seen (halves (some h) (value h4 u)))) (sym (found-piece [] s next v t e .part))
+      where
+        go : (o : Option ℕ) → value h4 v ≡ o
+            → number-at check-text at tag (taken (with-first h (bind o (λ a. some (a, t)))))
+            ≡ placed at (joined (place-of itself at tag (some w)) (place-of itself (next-of itself at tag (some w)) [] (some v)))
+            (number-seen (halves (some h) o))
+        go none q = refl
+        go (some l) q = whole w v h l p q
+
+    second : (w : Text) (o : Option ℕ) → value h4 w ≡ o → let next = next-of itself at tag (some w) in
+        let q = place-of itself next [] (taken (piece [] (drop next s))) in
+        number-at check-text at tag (taken (bind (bind o (λ a. some (a, drop next s))) both-halves))
+        ≡ placed at (joined (place-of itself at tag (some w)) q) (number-seen (halves o (value h4 (part s (q .span)))))
+    second w none e = none-when (found (taken (piece [] (drop (next-of itself at tag (some w)) s))))
+    second w (some h) e =
+        let next = next-of itself at tag (some w) in
+        ap (λ o. number-at check-text at tag (taken (with-first h o))) (field-read h4 [] (drop next s))
+        ∙ third w h e (piece [] (drop next s)) refl
+
+    first : (o : Option (Text × Text)) → piece tag (drop at s) ≡ o
+        → let p = place-of itself at tag (taken o) in
+        let q = place-of itself (p .next) [] (taken (piece [] (drop (p .next) s))) in
+        number-at check-text at tag
+        (taken (bind (bind o (λ p. bind (value h4 (p .0)) (λ a. some (a, p .1)))) both-halves))
+        ≡ placed at (joined p q) (number-seen (halves (value h4 (part s (p .span))) (value h4 (part s (q .span)))))
+    first none e = none-when (found (taken (piece [] (drop at s))))
+    first (some (w, t)) e =
+        let r = found-piece tag s at w t e in
+        let next = next-of itself at tag (some w) in
+        let q = place-of itself next [] (taken (piece [] (drop next s))) in
+        ap (λ (u : Text). number-at check-text at tag
+        (taken (bind (bind (value h4 w) (λ a. some (a, u))) both-halves))) (r .rest)
+        ∙ second w (value h4 w) refl
+        ∙ ap (λ (u : Text). placed at (joined (place-of itself at tag (some w)) q)
+        (number-seen (halves (value h4 u) (value h4 (part s (q .span)))))) (sym (r .part))
+
+pub check-read-as : (tag s : Text) (at : ℕ) {p q j : Place} {v w : Text} {n : Number} {r : NumberField}
+    → p ≡ place-of itself at tag (taken (piece tag (drop at s)))
+    → q ≡ place-of itself (p .next) [] (taken (piece [] (drop (p .next) s)))
+    → v ≡ part s (p .span) → w ≡ part s (q .span)
+    → n ≡ number-seen (halves (value (hex half-digits) v) (value (hex half-digits) w))
+    → j ≡ joined p q → r ≡ placed at j n
+    → r ≡ number-at check-text at tag (taken (pre tag check .read (drop at s)))
+check-read-as tag s at {p} {q} {n = n} d e f g h j k =
+    let of : Place → Place → NumberField = λ p q. placed at (joined p q) (number-seen (halves
+    (value (hex half-digits) (part s (p .span))) (value (hex half-digits) (part s (q .span))))) in
+    k ∙ ap (λ (j : Place). placed at j n) j ∙ ap (placed at (joined p q))
+    (h ∙ (λ i. number-seen (halves (value (hex half-digits) (f i)) (value (hex half-digits) (g i)))))
+    ∙ ap (of p) e ∙ ap (λ (p : Place). of p (place-of itself (p .next) [] (taken (piece [] (drop (p .next) s))))) d
+    ∙ sym (check-found tag s at)

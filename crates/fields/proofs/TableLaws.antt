@@ -17,7 +17,7 @@ use Rattle.csm.specs.Fields as csm
 use Rattle.csm.proofs.FormatLaws.{value-back}
 use Rattle.csm.proofs.WordTests.{index-back}
 use Rattle.fields.specs.Seen.{class-seen}
-use Rattle.fields.specs.Steps.{texts, alone}
+use Rattle.fields.specs.Steps.{texts}
 use Rattle.fields.specs.declared.Class.{Class}
 use Rattle.fields.specs.declared.Class.the-variants as class
 
@@ -84,7 +84,7 @@ classes =
     class.Rsi ∷ class.Ksm ∷ class.Rsm ∷ class.Esm ∷ class.Dsm ∷ class.Ers ∷ class.Rfs ∷ class.Rtr ∷ []
 
 named : (i : ℕ) → i < 8
-    → class-seen (alone (value mcl (getD class-texts i []))) ≡ getD classes i class.Nothing
+    → class-seen (value mcl (getD class-texts i [])) ≡ getD classes i class.Nothing
 named zero h = refl
 named (suc zero) h = refl
 named (suc (suc zero)) h = refl
@@ -106,19 +106,19 @@ listed csm.RFS = omega arith
 listed csm.RTR = omega arith
 
 pub class-named : (w : Text) (i : ℕ) → i ≡ index class-texts w → i < 8
-    → class-seen (alone (value mcl w)) ≡ getD classes i class.Nothing
+    → class-seen (value mcl w) ≡ getD classes i class.Nothing
 class-named w i e h =
     let q : getD class-texts i [] ≡ w =
     ap (λ (j : ℕ). getD class-texts j []) e ∙ index-back class-texts w (omega arith) in
-    ap (λ (v : Text). class-seen (alone (value mcl v))) (sym q) ∙ named i h
+    ap (λ (v : Text). class-seen (value mcl v)) (sym q) ∙ named i h
 
 -- none of four numbers from a on
 pub past-four : (a n : ℕ) → a ≤ n → (n ≡ a → ⊥) → (n ≡ a + 1 → ⊥) → (n ≡ a + 2 → ⊥) → (n ≡ a + 3 → ⊥)
     → a + 4 ≤ n
 past-four a n h p q r s = omega arith
 
-pub class-unknown : (w : Text) → 8 ≤ index class-texts w → class-seen (alone (value mcl w)) ≡ class.Nothing
-class-unknown w h = ap (λ o. class-seen (alone o)) (go (value mcl w) refl)
+pub class-unknown : (w : Text) → 8 ≤ index class-texts w → class-seen (value mcl w) ≡ class.Nothing
+class-unknown w h = ap class-seen (go (value mcl w) refl)
   where
     go : (o : Option csm.Class) → value mcl w ≡ o → o ≡ none
     go none q = refl

@@ -7,7 +7,7 @@ ghost use Rattle.octets.specs.Text as texts;
 ghost use Rattle.csm.specs.Format.{value};
 ghost use Rattle.csm.specs.Fields as csm;
 ghost use Rattle.fields.specs.Seen.{number-seen, class-seen};
-ghost use Rattle.fields.specs.Steps.{alone, texts as table-texts, here};
+ghost use Rattle.fields.specs.Steps.{texts as table-texts, here, halves};
 use super::Class;
 use super::Number;
 
@@ -42,35 +42,45 @@ pub(crate) fn numeral(base: u64, digits: &[u8]) -> u64
 // The number of so many hex digits.
 fn hex(w: &[u8], digits: usize) -> Number
     requires { ⌜ digits ≤ 16 ⌝ }
-    ensures { λ r. ⌜ r ≡ number-seen (csm.hex digits) (alone (value (csm.hex digits) (now (w .entry)))) ⌝ }
+    ensures { λ r. ⌜ r ≡ number-seen (value (csm.hex digits) (now (w .entry))) ⌝ }
 {
     if !octets::is_run(w, b'F', digits, digits) {
         return Number::Nothing;
     }
-    Number::Is {
-        value: numeral(16, w),
-        length: w.len(),
-    }
+    Number::Is(numeral(16, w))
 }
 
 // The number of four hex digits.
-pub(crate) fn half(w: &[u8]) -> Number
-    ensures { λ r. ⌜ r ≡ number-seen (csm.hex csm.half-digits)
-        (alone (value (csm.hex csm.half-digits) (now (w .entry)))) ⌝ }
+fn half(w: &[u8]) -> Number
+    ensures { λ r. ⌜ r ≡ number-seen (value (csm.hex csm.half-digits) (now (w .entry))) ⌝ }
 {
     hex(w, 4)
 }
 
+// The number of two halves of four hex digits.
+pub(crate) fn check(high: &[u8], low: &[u8]) -> Number
+    ensures { λ r. ⌜ r ≡ number-seen (halves (value (csm.hex csm.half-digits) (now (high .entry)))
+        (value (csm.hex csm.half-digits) (now (low .entry)))) ⌝ }
+{
+    let Number::Is(left) = half(high) else {
+        return Number::Nothing;
+    };
+    let Number::Is(right) = half(low) else {
+        return Number::Nothing;
+    };
+    Number::Is(left * 65536 + right)
+}
+
 // The number of sixteen hex digits: a block of the cipher.
 pub fn block(w: &[u8]) -> Number
-    ensures { λ r. ⌜ r ≡ number-seen (csm.hex 16) (alone (value (csm.hex 16) (now (w .entry)))) ⌝ }
+    ensures { λ r. ⌜ r ≡ number-seen (value (csm.hex 16) (now (w .entry))) ⌝ }
 {
     hex(w, 16)
 }
 
 // A count: 1 to 8 digits, the first of them no zero.
 pub(crate) fn count(w: &[u8]) -> Number
-    ensures { λ r. ⌜ r ≡ number-seen csm.count (alone (value csm.count (now (w .entry)))) ⌝ }
+    ensures { λ r. ⌜ r ≡ number-seen (value csm.count (now (w .entry))) ⌝ }
 {
     if !octets::is_run(w, 0, 1, 8) {
         return Number::Nothing;
@@ -78,10 +88,7 @@ pub(crate) fn count(w: &[u8]) -> Number
     if w[0] == b'0' {
         return Number::Nothing;
     }
-    Number::Is {
-        value: numeral(10, w),
-        length: w.len(),
-    }
+    Number::Is(numeral(10, w))
 }
 
 // The place of w among the texts of a table, each of which ends at a blank; their number where it is none of them.
@@ -103,24 +110,21 @@ fn place(table: &[u8], w: &[u8]) -> usize
 
 // A service, by its place among the twelve contents of SVR.
 pub fn service(w: &[u8]) -> Number
-    ensures { λ r. ⌜ r ≡ number-seen csm.svr (alone (value csm.svr (now (w .entry)))) ⌝ }
+    ensures { λ r. ⌜ r ≡ number-seen (value csm.svr (now (w .entry))) ⌝ }
 {
     let k = place(
         b" IV KD KD.IV KK KK.IV KK.KD KK.KD.IV *KK *KK.IV *KK.KD *KK.KD.IV",
         w,
     );
     if k < 12 {
-        return Number::Is {
-            value: k as u64,
-            length: w.len(),
-        };
+        return Number::Is(k as u64);
     }
     Number::Nothing
 }
 
 // The class that w names.
 pub(crate) fn class(w: &[u8]) -> Class
-    ensures { λ r. ⌜ r ≡ class-seen (alone (value csm.mcl (now (w .entry)))) ⌝ }
+    ensures { λ r. ⌜ r ≡ class-seen (value csm.mcl (now (w .entry))) ⌝ }
 {
     match place(b"RSI KSM RSM ESM DSM ERS RFS RTR", w) {
         0 => Class::Rsi,
@@ -149,7 +153,7 @@ fn letter_at(w: &[u8], at: usize, letter: u8) -> usize
 
 // The letters of an ERF, in alphabetical order, as bits, A the lowest.
 pub(crate) fn letters(w: &[u8]) -> Number
-    ensures { λ r. ⌜ r ≡ number-seen csm.erf (alone (value csm.erf (now (w .entry)))) ⌝ }
+    ensures { λ r. ⌜ r ≡ number-seen (value csm.erf (now (w .entry))) ⌝ }
 {
     let letters = b"ABFIKMOPU";
     let mut value: u64 = 0;
@@ -167,8 +171,5 @@ pub(crate) fn letters(w: &[u8]) -> Number
     if w.len() < 1 {
         return Number::Nothing;
     }
-    Number::Is {
-        value,
-        length: w.len(),
-    }
+    Number::Is(value)
 }

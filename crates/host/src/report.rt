@@ -1,9 +1,6 @@
-// The 32 bytes of a report.
+// The bytes of a report.
 ghost use mathlib.Core.Path.{_≡_};
-ghost use mathlib.Core.List.{_++_};
-ghost use Prim.Native.Nat.{_≤_};
-ghost use lib.ListN.{length};
-ghost use Rattle.octets.specs.Number.{bytes, copies};
+ghost use Rattle.octets.specs.Codec.{written};
 ghost use Rattle.octets.specs.Wrote.{Wrote};
 ghost use Rattle.host.specs.Report as reports;
 use outcome::Report;
@@ -17,10 +14,8 @@ fn mark(b: bool) -> u64
 
 // Letters 2, length 2, class 1.
 fn put_front(rest: &mut [u8], r: Report) -> usize
-    requires { ⌜ 5 ≤ length (now rest) ⌝ }
-    ensures { λ n. ⌜ Wrote (bytes 2 (r .letters) ++ bytes 2 (r .length) ++ bytes 1 (r .class))
+    ensures { λ n. ⌜ Wrote (written reports.front-layout (reports.front-of r))
         (now (rest .entry)) (now (rest .exit)) n ⌝ }
-    ensures { λ n. ⌜ n ≡ 5 ⌝ }
 {
     let a = octets::put_number(rest, 2, r.letters);
     let b = a + octets::put_number(&mut rest[a..], 2, r.length as u64);
@@ -29,10 +24,8 @@ fn put_front(rest: &mut [u8], r: Report) -> usize
 
 // Service 1, IV present 1, date present 1.
 fn put_marks(rest: &mut [u8], r: Report) -> usize
-    requires { ⌜ 3 ≤ length (now rest) ⌝ }
-    ensures { λ n. ⌜ Wrote (bytes 1 (r .service) ++ bytes 1 (reports.mark (r .vector)) ++ bytes 1 (reports.mark (r .dated)))
+    ensures { λ n. ⌜ Wrote (written reports.marks-layout (reports.marks-of r))
         (now (rest .entry)) (now (rest .exit)) n ⌝ }
-    ensures { λ n. ⌜ n ≡ 3 ⌝ }
 {
     let a = octets::put_number(rest, 1, r.service);
     let b = a + octets::put_number(&mut rest[a..], 1, mark(r.vector));
@@ -41,10 +34,8 @@ fn put_marks(rest: &mut [u8], r: Report) -> usize
 
 // IV 8, date 12, zero 4.
 fn put_values(rest: &mut [u8], r: Report) -> usize
-    requires { ⌜ 24 ≤ length (now rest) ⌝ }
-    ensures { λ n. ⌜ Wrote (bytes 8 (r .iv) ++ r .date .digits ++ copies 4 0)
+    ensures { λ n. ⌜ Wrote (written reports.values-layout (reports.values-of r))
         (now (rest .entry)) (now (rest .exit)) n ⌝ }
-    ensures { λ n. ⌜ n ≡ 24 ⌝ }
 {
     let date = r.date;
     let a = octets::put_number(rest, 8, r.iv);
@@ -52,11 +43,9 @@ fn put_values(rest: &mut [u8], r: Report) -> usize
     b + octets::fill(&mut rest[b..], 4, 0)
 }
 
-// The whole, 32 bytes.
+// The whole, part after part.
 fn put_whole(rest: &mut [u8], r: Report) -> usize
-    requires { ⌜ 32 ≤ length (now rest) ⌝ }
     ensures { λ n. ⌜ Wrote (reports.report-bytes r) (now (rest .entry)) (now (rest .exit)) n ⌝ }
-    ensures { λ n. ⌜ n ≡ 32 ⌝ }
 {
     let a = put_front(rest, r);
     let b = a + put_marks(&mut rest[a..], r);

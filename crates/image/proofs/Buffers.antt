@@ -1,22 +1,23 @@
 -- What the writers leave in a lent buffer, and what is delivered there.
 use mathlib.Core.Path.{_≡_, refl, sym, ap, _∙_}
-use mathlib.Core.Bool.{Bool, true, false, cond}
+use mathlib.Core.Bool.{Bool, true, false}
 use mathlib.Core.List.{[], _∷_, _++_, append-assoc, append-nil}
 use mathlib.Core.Option.{Option, none, some}
 use Prim.Native.Nat.{ℕ, zero, suc, _+_, _-_, _≤_, _<_}
 use native.Mathlib.Omega.{arith}
 use lib.Dec.{ltb, leb}
-use lib.ListN.{length, take, drop, length-append, length-take, length-drop, take-append-drop, drop-of-length-le}
-use lib.Seq.{take-all, drop-drop, length-take-le}
+use lib.ListN.{length, take, drop, length-append, length-drop, take-append-drop, drop-of-length-le}
+use lib.Seq.{take-all, drop-drop}
 use borrow.Author.Tests.{lt-ltb, le-ltb, le-leb, lt-leb, leb-true, leb-false}
 use Rattle.octets.specs.Text.{Text}
 use Rattle.octets.specs.Number.{copies}
 use Rattle.octets.specs.Wrote.{Wrote}
+use Rattle.octets.proofs.Writing.{wrote-fits}
 use Rattle.partner.specs.declared.Name.{Name}
 use Rattle.partner.specs.declared.Entry.{Entry}
-use Rattle.partner.specs.Record.{entry-bytes, put-entry}
+use Rattle.partner.specs.Record.{entry-bytes, put-entry, entry-size}
 use Rattle.partner.specs.Table.{started, empties}
-use Rattle.image.specs.Image.{slots-bytes, encode}
+use Rattle.image.specs.Image.{slots-bytes, encode, partner-size, smallest}
 use Rattle.image.specs.Places.{slot-place, splice, with-entry, with-partner, without-partner}
 use Rattle.image.specs.Results.{put-back, added, removed, put-slot, added-slot, removed-slot}
 use Rattle.image.specs.Results.{delivered, size-delivered}
@@ -44,7 +45,8 @@ pub given-wrote : {t out out′ : Text} {n : ℕ} → length t ≤ length out �
 unfolding delivered size-delivered
 given-wrote {t} {out} {out′} {n} h w =
     let e : leb (length t) (length out) ≡ true = le-leb (length t) (length out) h in
-    record { buffer = rw e (w .text); size = rw e (w .count) }
+    let f = wrote-fits w h in
+    record { buffer = rw e (f .0); size = rw e (f .1) }
 
 -- where there is room
 pub delivered-room : (t out : Text) → length t ≤ length out
@@ -55,20 +57,20 @@ delivered-room t out h =
     (rw e, rw e)
 
 -- within the image
-pub put-back-within : (at : ℕ) (e : Entry) (image : Text) → at + 157 ≤ length image
+pub put-back-within : (at : ℕ) (e : Entry) (image : Text) → at + partner-size ≤ length image
     → put-back at e image ≡ with-entry at e image
 unfolding put-back
-put-back-within at e image h = rw (le-leb (at + 157) (length image) h)
+put-back-within at e image h = rw (le-leb (at + partner-size) (length image) h)
 
 pub added-within : (at : ℕ) (e : Entry) (image : Text) → at < length image
     → added at e image ≡ some (with-partner at e image)
 unfolding added
 added-within at e image h = rw (lt-ltb at (length image) h)
 
-pub removed-within : (at : ℕ) (image : Text) → at + 157 ≤ length image
+pub removed-within : (at : ℕ) (image : Text) → at + partner-size ≤ length image
     → removed at image ≡ some (without-partner at image)
 unfolding removed
-removed-within at image h = rw (le-leb (at + 157) (length image) h)
+removed-within at image h = rw (le-leb (at + partner-size) (length image) h)
 
 -- of one of the 64 slots
 module _ (k : ℕ) (image : Text) (h : k < 64) where
@@ -105,77 +107,55 @@ module _ (at : ℕ) (image out : Text) where
   unfolding added
   added-outside e h = rw (le-ltb at (length image) h) (given-none out)
 
-  module _ (e : Entry) (size : length (entry-bytes e) ≡ 156) (h : at < length image) where
-    added-size : length (with-partner at e image) ≡ length image + 156
+  module _ (e : Entry) (size : length (entry-bytes e) ≡ entry-size) (h : at < length image) where
+    added-size : length (with-partner at e image) ≡ length image + entry-size
     unfolding with-partner
     added-size = omega (arith, splice-size at 1 (2 ∷ entry-bytes e) image (omega arith))
 
-    pub added-no-room : length out < length image + 156 → Given (added at e image) out out 0
+    pub added-no-room : length out < length image + entry-size → Given (added at e image) out out 0
     unfolding added
     added-no-room k =
         rw (lt-ltb at (length image) h) (given-no-room (with-partner at e image) out (omega (arith, added-size)))
 
-    pub added-wrote : {out′ : Text} {n : ℕ} → length image + 156 ≤ length out
+    pub added-wrote : {out′ : Text} {n : ℕ} → length image + entry-size ≤ length out
         → Wrote (with-partner at e image) out out′ n → Given (added at e image) out out′ n
     unfolding added
     added-wrote k w = rw (lt-ltb at (length image) h) (given-wrote (omega (arith, added-size)) w)
 
-  pub removed-outside : length image < at + 157 → Given (removed at image) out out 0
+  pub removed-outside : length image < at + partner-size → Given (removed at image) out out 0
   unfolding removed
-  removed-outside h = rw (lt-leb (at + 157) (length image) h) (given-none out)
+  removed-outside h = rw (lt-leb (at + partner-size) (length image) h) (given-none out)
 
-  module _ (h : at + 157 ≤ length image) where
-    removed-size : length (without-partner at image) + 156 ≡ length image
+  module _ (h : at + partner-size ≤ length image) where
+    removed-size : length (without-partner at image) + entry-size ≡ length image
     unfolding without-partner
-    removed-size = omega (arith, splice-size at 157 (0 ∷ []) image h)
+    removed-size = omega (arith, splice-size at partner-size (0 ∷ []) image h)
 
-    pub removed-no-room : length out + 156 < length image → Given (removed at image) out out 0
+    pub removed-no-room : length out + entry-size < length image → Given (removed at image) out out 0
     unfolding removed
     removed-no-room k =
-        rw (le-leb (at + 157) (length image) h)
+        rw (le-leb (at + partner-size) (length image) h)
         (given-no-room (without-partner at image) out (omega (arith, removed-size)))
 
-    pub removed-wrote : {out′ : Text} {n : ℕ} → length image ≤ length out + 156
+    pub removed-wrote : {out′ : Text} {n : ℕ} → length image ≤ length out + entry-size
         → Wrote (without-partner at image) out out′ n → Given (removed at image) out out′ n
     unfolding removed
-    removed-wrote k w = rw (le-leb (at + 157) (length image) h) (given-wrote (omega (arith, removed-size)) w)
+    removed-wrote k w = rw (le-leb (at + partner-size) (length image) h) (given-wrote (omega (arith, removed-size)) w)
 
 -- ---- writers
-
--- what is left behind n bytes has room for k
-pub room-left : (l : Text) (n k : ℕ) → n + k ≤ length l → k ≤ length (take (length l - n) (drop n l))
-room-left l n k h = omega (arith, length-take (length l - n) (drop n l), length-drop n l)
 
 -- the whole of what is left
 pub left-all : (l : Text) (n : ℕ) → take (length l - n) (drop n l) ≡ drop n l
 left-all l n = take-all (length l - n) (drop n l) (omega (arith, length-drop n l))
 
 module _ (e : Entry) (l : Text) where
-  pub put-long : 156 ≤ length l → (put-entry e l .0 ≡ entry-bytes e ++ drop 156 l) × (put-entry e l .1 ≡ 156)
+  pub put-long : entry-size ≤ length l → (put-entry e l .0 ≡ entry-bytes e ++ drop entry-size l) × (put-entry e l .1 ≡ entry-size)
   unfolding put-entry
-  put-long h = let f : ltb (length l) 156 ≡ false = le-ltb (length l) 156 h in (rw f, rw f)
+  put-long h = let f : ltb (length l) entry-size ≡ false = le-ltb (length l) entry-size h in (rw f, rw f)
 
-  pub put-short : length l < 156 → put-entry e l .0 ≡ l
+  pub put-short : length l < entry-size → put-entry e l .0 ≡ l
   unfolding put-entry
-  put-short h = rw (lt-ltb (length l) 156 h)
-
-  pub put-small : put-entry e l .1 ≤ 156
-  unfolding put-entry
-  put-small = go (ltb (length l) 156)
-    where
-      go : (b : Bool) → cond {A = Text × ℕ} b (l, 0) (entry-bytes e ++ drop 156 l, 156) .1 ≤ 156
-      go true = omega arith
-      go false = omega arith
-
-  pub wrote-entry : {l′ : Text} {n : ℕ} → 156 ≤ length l → length l′ ≡ length l → l′ ≡ put-entry e l .0
-      → n ≡ put-entry e l .1 → Wrote (entry-bytes e) l l′ n
-  wrote-entry {l′} {n} h k p q =
-      let w = put-long h in
-      let t : l′ ≡ entry-bytes e ++ drop 156 l = p ∙ w .0 in
-      let i = length-append (entry-bytes e) (drop 156 l) in
-      let j : length l′ ≡ length (entry-bytes e ++ drop 156 l) = ap length t in
-      let s : length (entry-bytes e) ≡ 156 = omega (arith, length-drop 156 l) in
-      record { count = q ∙ w .1 ∙ sym s; text = t ∙ ap (λ (m : ℕ). entry-bytes e ++ drop m l) (sym s) }
+  put-short h = rw (lt-ltb (length l) entry-size h)
 
 -- the front, a text, and what is behind k bytes there
 pub splice-as : (at k : ℕ) (t image : Text)
@@ -185,28 +165,18 @@ splice-as at k t image =
     append-assoc (take at image) t (take (length image - (at + k)) (drop (at + k) image))
     ∙ ap (λ (r : Text). take at image ++ (t ++ r)) (left-all image (at + k))
 
--- room for what is before a partner's record, an empty slot, and what is behind the record
-pub removed-room : (at : ℕ) (image out : Text) → at + 157 ≤ length image → length image ≤ length out + 156
-    → length (take at image ++ copies 1 0) + length (take (length image - (at + 157)) (drop (at + 157) image))
-    ≤ length out
-removed-room at image out h k =
-    let a : length (take at image) ≡ at = length-take-le at image (omega arith) in
-    let b = length-append (take at image) (copies 1 0) in
-    let c = ap length (left-all image (at + 157)) ∙ length-drop (at + 157) image in
-    omega arith
-
-put-there : (at : ℕ) (e : Entry) (image : Text) (b : Bool) → leb (at + 157) (length image) ≡ b
+put-there : (at : ℕ) (e : Entry) (image : Text) (b : Bool) → leb (at + partner-size) (length image) ≡ b
     → take (at + 1) image ++ put-entry e (drop (at + 1) image) .0 ≡ put-back at e image
 unfolding put-back with-entry splice
 put-there at e image true h =
-    let k = leb-true (at + 157) (length image) h in
+    let k = leb-true (at + partner-size) (length image) h in
     let l = length-drop (at + 1) image in
-    let w : put-entry e (drop (at + 1) image) .0 ≡ entry-bytes e ++ drop 156 (drop (at + 1) image) =
+    let w : put-entry e (drop (at + 1) image) .0 ≡ entry-bytes e ++ drop entry-size (drop (at + 1) image) =
     put-long e (drop (at + 1) image) (omega arith) .0 in
-    let v = w ∙ ap (λ (r : Text). entry-bytes e ++ r) (drop-drop 156 (at + 1) image) in
+    let v = w ∙ ap (λ (r : Text). entry-bytes e ++ r) (drop-drop entry-size (at + 1) image) in
     rw h (ap (λ (r : Text). take (at + 1) image ++ r) v)
 put-there at e image false h =
-    let k = leb-false (at + 157) (length image) h in
+    let k = leb-false (at + partner-size) (length image) h in
     let l = length-drop (at + 1) image in
     let w : put-entry e (drop (at + 1) image) .0 ≡ drop (at + 1) image =
     put-short e (drop (at + 1) image) (omega arith) in
@@ -223,11 +193,11 @@ put-back-so at e image last h p =
     let q : last ≡ put-entry e l .0 = p ∙ ap (λ (r : Text). put-entry e r .0) (left-all image (at + 1)) in
     let r : last ++ drop n l ≡ put-entry e l .0 =
     ap (λ (x : Text). last ++ x) (drop-of-length-le l m) ∙ append-nil last ∙ q in
-    ap (λ (x : Text). take (at + 1) image ++ x) r ∙ put-there at e image (leb (at + 157) (length image)) refl
+    ap (λ (x : Text). take (at + 1) image ++ x) r ∙ put-there at e image (leb (at + partner-size) (length image)) refl
 
 pub put-back-not : (at : ℕ) (e : Entry) (image : Text) → length image ≤ at → image ≡ put-back at e image
 unfolding put-back
-put-back-not at e image h = rw (lt-leb (at + 157) (length image) (omega arith))
+put-back-not at e image h = rw (lt-leb (at + partner-size) (length image) (omega arith))
 
 -- the image of 64 empty slots
 empties-bytes : (n : ℕ) → slots-bytes (empties n) ≡ copies n 0
@@ -239,6 +209,6 @@ pub started-as : (own : Name) → (copies 1 1 ++ own .bytes) ++ copies 64 0 ≡ 
 unfolding encode
 started-as own = ap (λ (s : Text). 1 ∷ (own .bytes ++ s)) (sym (empties-bytes 64))
 
-pub started-size : (own : Name) → length (own .bytes) ≡ 16 → length (encode (started own)) ≡ 81
+pub started-size : (own : Name) → length (own .bytes) ≡ 16 → length (encode (started own)) ≡ smallest
 started-size own h =
     ap length (sym (started-as own)) ∙ length-append (copies 1 1 ++ own .bytes) (copies 64 0) ∙ omega arith

@@ -15,7 +15,8 @@ use Rattle.partner.specs.Entry.{empty}
 use Rattle.partner.specs.Held.{Held}
 use Rattle.partner.specs.Legal as rule
 use Rattle.partner.specs.Table.{Table, is-empty, identities, differs, started, empties}
-use Rattle.image.specs.Image.{slot-bytes, encode, decode}
+use Rattle.partner.specs.Record.{entry-size}
+use Rattle.image.specs.Image.{slot-bytes, encode, decode, smallest, largest}
 use Rattle.image.specs.Results.{put-slot, added-slot, removed-slot}
 use Rattle.image.specs.Claims.{Claims, in-slot, with-slot}
 use Rattle.image.proofs.Entries.{held-kept, empty-is, legal-full}
@@ -29,9 +30,9 @@ use Rattle.image.proofs.Numbered.{empty-there, full-size, slot-found, s
 use Rattle.image.proofs.Numbered.{put-slot-is, load-slot-is, remove-slot-is}
 use Rattle.image.proofs.Full.{full, full-read, full-length, bare-read, bare-length}
 
-sizes : (s : Text) (t : Table) → Decoded s t → (81 ≤ length s) × (length s ≤ 10_065)
+sizes : (s : Text) (t : Table) → Decoded s t → (smallest ≤ length s) × (length s ≤ largest)
 sizes s t d =
-    subst (λ (u : Text). (81 ≤ length u) × (length u ≤ 10_065)) (sym (d .text))
+    subst (λ (u : Text). (smallest ≤ length u) × (length u ≤ largest)) (sym (d .text))
     (image-size t (rules t (d .is-legal)) (d .stored))
 
 -- ---- the first table
@@ -82,7 +83,7 @@ module _ (s : Text) (t : Table) (k : ℕ) (h : decode s ≡ some t) (w : k < 64)
 
   added : (e : Entry) → is-empty (in-slot k t) ≡ true → rule.legal e ≡ true → Held e
       → differs (e .identity .bytes) (t .own ∷ identities (t .slots)) ≡ true
-      → (u : Text) × ((added-slot k e s ≡ some u) × ((decode u ≡ some (with-slot k e t)) × (length u ≡ length s + 156)))
+      → (u : Text) × ((added-slot k e s ≡ some u) × ((decode u ≡ some (with-slot k e t)) × (length u ≡ length s + entry-size)))
   added e f l q a =
       let kept = held-kept e q in
       let st = stored-set e (λ m. used l kept) (t .slots) (d .stored) k in
@@ -101,7 +102,7 @@ module _ (s : Text) (t : Table) (k : ℕ) (h : decode s ≡ some t) (w : k < 64)
 
   removed : is-empty (in-slot k t) ≡ false
       → (u : Text) × ((removed-slot k s ≡ some u)
-      × ((decode u ≡ some (with-slot k empty t)) × (length u + 156 ≡ length s)))
+      × ((decode u ≡ some (with-slot k empty t)) × (length u + entry-size ≡ length s)))
   removed f =
       let st = stored-set empty (λ m. vacant) (t .slots) (d .stored) k in
       let n = full-size (t .slots) (d .stored) k f in

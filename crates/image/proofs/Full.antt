@@ -9,7 +9,7 @@ use Rattle.partner.specs.declared.Name.{Name}
 use Rattle.partner.specs.declared.Entry.{Entry}
 use Rattle.partner.specs.Examples.{entry, top, L, no-set}
 use Rattle.partner.specs.Table.{Table}
-use Rattle.image.specs.Image.{encode, decode}
+use Rattle.image.specs.Image.{encode, decode, smallest, largest}
 use Rattle.image.specs.Examples.{harbor, vacants}
 use Rattle.image.proofs.Examples.{computes}
 
@@ -31,7 +31,7 @@ pub full-read : decode (encode (full 64)) ≡ some (full 64)
 unfolding computes full
 full-read = refl
 
-pub full-length : length (encode (full 64)) ≡ 10_065
+pub full-length : length (encode (full 64)) ≡ largest
 unfolding computes full
 full-length = refl
 
@@ -39,6 +39,6 @@ pub bare-read : decode (encode (full 0)) ≡ some (full 0)
 unfolding computes full
 bare-read = refl
 
-pub bare-length : length (encode (full 0)) ≡ 81
+pub bare-length : length (encode (full 0)) ≡ smallest
 unfolding computes full
 bare-length = refl

@@ -15,7 +15,7 @@ use Rattle.octets.proofs.Comparing.{both, same-equal, same-self, all-drop}
 use Rattle.partner.specs.Legal as rule
 use Rattle.partner.proofs.Naming.{filled-length}
 use Rattle.partner.specs.Table.{Table, legal, slots-legal, identities, apart, AllHeld}
-use Rattle.image.specs.Image.{encode, slots-bytes, slots-in, table-in, decode}
+use Rattle.image.specs.Image.{encode, slots-bytes, slots-in, table-in, decode, front-size, smallest, largest}
 use Rattle.image.proofs.Slots.{Stored, slots-back, stored-read, slots-size, row-held}
 
 -- ---- a legal table, rule by rule
@@ -111,14 +111,14 @@ decoded s t h =
     }
 
 -- its slots are those that are read of the image
-pub slots-there : (s : Text) (t : Table) → decode s ≡ some t → t .slots ≡ slots-in 64 (drop 17 s)
+pub slots-there : (s : Text) (t : Table) → decode s ≡ some t → t .slots ≡ slots-in 64 (drop front-size s)
 unfolding table-in
 slots-there s t h = ap (λ (u : Table). u .slots) (sym (read-back s t h .0))
 
 -- ---- sizes
 
 pub image-size : (t : Table) → Rules t → Stored (t .slots)
-    → (81 ≤ length (encode t)) × (length (encode t) ≤ 10_065)
+    → (smallest ≤ length (encode t)) × (length (encode t) ≤ largest)
 unfolding encode
 image-size t r st =
     let n = filled-length (t .own) (r .own-filled) in
@@ -133,7 +133,7 @@ pub held-slots : (s : Text) (t : Table) → all-octets s ≡ true → decode s �
 unfolding table-in
 held-slots s t o h =
     subst (λ (u : Table). AllHeld (u .slots)) (read-back s t h .0)
-    (row-held 64 (drop 17 s) (all-drop (λ b. ltb b 256) 17 s o))
+    (row-held 64 (drop front-size s) (all-drop (λ b. ltb b 256) front-size s o))
 
 -- ---- decoded or not
 

@@ -19,7 +19,7 @@ use Rattle.partner.specs.Held.{Held}
 use Rattle.partner.specs.Legal as partner
 use Rattle.partner.specs.Record.{entry-bytes}
 use Rattle.partner.specs.Table.{Table, is-empty, find, put, into-free-slot, holding, AllHeld}
-use Rattle.image.specs.Image.{slot-bytes, encode, slots-in, decode}
+use Rattle.image.specs.Image.{slot-bytes, encode, slots-in, decode, front-size, partner-size}
 use Rattle.image.specs.Places.{slot-of, free-slot, slot-place, splice, with-partner, without-partner}
 use Rattle.image.specs.Results.{put-slot, added-slot, removed-slot}
 use Rattle.image.proofs.Entries.{empty-is, empty-held, filled-full, legal-full, is-filled-real}
@@ -49,7 +49,7 @@ module _ (slots : List Entry) (st : Stored slots) (k : ℕ) where
       ⊎-elim (λ e. e) (λ w. absurd (true≢false (sym h ∙ legal-full (getD slots k empty) (w .0)))) (stored-at slots st k)
 
   -- a partner's record has 157 bytes
-  pub full-size : is-empty (getD slots k empty) ≡ false → length (slot-bytes (getD slots k empty)) ≡ 157
+  pub full-size : is-empty (getD slots k empty) ≡ false → length (slot-bytes (getD slots k empty)) ≡ partner-size
   full-size h =
       ⊎-elim (λ e. absurd (true≢false (sym empty-is ∙ ap is-empty (sym e) ∙ h)))
       (λ w. used-size (getD slots k empty) (w .0) (w .1)) (stored-at slots st k)
@@ -60,15 +60,15 @@ held-at [] k h = empty-held
 held-at (e ∷ slots) zero h = h .0
 held-at (e ∷ slots) (suc k) h = held-at slots k (h .1)
 
-pub slot-held : (image : Text) (k : ℕ) → all-octets image ≡ true → Held (getD (slots-in 64 (drop 17 image)) k empty)
+pub slot-held : (image : Text) (k : ℕ) → all-octets image ≡ true → Held (getD (slots-in 64 (drop front-size image)) k empty)
 slot-held image k o =
-    held-at (slots-in 64 (drop 17 image)) k (row-held 64 (drop 17 image) (all-drop (λ b. ltb b 256) 17 image o))
+    held-at (slots-in 64 (drop front-size image)) k (row-held 64 (drop front-size image) (all-drop (λ b. ltb b 256) front-size image o))
 
 module _ (image : Text) (t : Table) (d : decode image ≡ some t) where
   abbrev is : Decoded image t
   is = decoded image t d
 
-  pub slots-are : t .slots ≡ slots-in 64 (drop 17 image)
+  pub slots-are : t .slots ≡ slots-in 64 (drop front-size image)
   slots-are = slots-there image t d
 
   slots-64 : length (t .slots) ≡ 64
@@ -141,9 +141,9 @@ module _ (image : Text) (t : Table) (d : decode image ≡ some t) where
   put-slot-is k e h f g =
       let at = slot-place k image in
       let l = full-size (t .slots) (is .stored) k f in
-      let w : at + 157 ≤ length image = within k h 157 l in
+      let w : at + partner-size ≤ length image = within k h partner-size l in
       put-slot-within k image h e ∙ put-back-within at e image w ∙ entry-splice at e image (kind k h f) (omega arith)
-      ∙ ap (λ (b : Text). splice at 157 b image) (sym (full-bytes e g)) ∙ replaced k h 157 e l
+      ∙ ap (λ (b : Text). splice at partner-size b image) (sym (full-bytes e g)) ∙ replaced k h partner-size e l
 
   pub load-slot-is : (k : ℕ) (e : Entry) → k < 64 → is-empty (getD (t .slots) k empty) ≡ true → is-empty e ≡ false
       → added-slot k e image ≡ some (encode (holding t (set (t .slots) k e)))
@@ -163,6 +163,6 @@ module _ (image : Text) (t : Table) (d : decode image ≡ some t) where
   remove-slot-is k h f =
       let at = slot-place k image in
       let l = full-size (t .slots) (is .stored) k f in
-      removed-slot-within k image h ∙ removed-within at image (within k h 157 l)
+      removed-slot-within k image h ∙ removed-within at image (within k h partner-size l)
       ∙ ap {B = Option Text} some
-      (ap (λ (b : Text). splice at 157 b image) (sym vacant-record) ∙ replaced k h 157 empty l)
+      (ap (λ (b : Text). splice at partner-size b image) (sym vacant-record) ∙ replaced k h partner-size empty l)

@@ -14,10 +14,10 @@ use Rattle.octets.proofs.Comparing.{both, drop-step, octets-part}
 use Rattle.partner.specs.declared.Entry.{Entry}
 use Rattle.partner.specs.Entry.{empty}
 use Rattle.partner.specs.Legal as rule
-use Rattle.partner.specs.Record.{entry-bytes, entry-in}
-use Rattle.partner.proofs.Joining.{read-written}
+use Rattle.partner.specs.Record.{entry-bytes, entry-in, entry-size}
+use Rattle.partner.proofs.Storing.{read-written}
 use Rattle.partner.specs.Table.{legal, identities, differs, apart}
-use Rattle.image.specs.Image.{record-length, slots-bytes, slots-in}
+use Rattle.image.specs.Image.{record-length, slots-bytes, slots-in, partner-size}
 use Rattle.image.specs.Places.{entry-at}
 use Rattle.image.specs.Pass.{identity-at, apart-from, record-legal}
 use Rattle.image.proofs.Entries.{Kept, size-in, legal-filled, legal-full, is-filled-real, identity-front}
@@ -57,21 +57,21 @@ module _ (p r : Text) (a n : ℕ) (size : length p ≡ a) where
       let l : a < length s = omega (arith, length-append p (0 ∷ r)) in
       rw (g, lt-ltb a (length s) l) (ap (records-legal n (a + 1)) (sym (append-assoc p (0 ∷ []) r)))
 
-  module _ (b : Text) (long : length b ≡ 156) where
+  module _ (b : Text) (long : length b ≡ entry-size) where
     abbrev whole : Text
     whole = p ++ (2 ∷ (b ++ r))
 
     kind-there : getD whole a 0 ≡ 2
     kind-there = ap (λ (i : ℕ). getD whole i 0) (sym here) ∙ byte-shift p (2 ∷ (b ++ r)) a size 0
 
-    fits-there : a + 157 ≤ length whole
+    fits-there : a + partner-size ≤ length whole
     fits-there = omega (arith, length-append p (2 ∷ (b ++ r)), length-append b r)
 
     entry-there : entry-at a whole ≡ entry-in b
     unfolding entry-at
     entry-there =
         ap (λ (i : ℕ). entry-at i whole) (sym here) ∙ entry-shift p (2 ∷ (b ++ r)) a size 0
-        ∙ ap entry-in (take-at b r 156 long)
+        ∙ ap entry-in (take-at b r entry-size long)
 
     identity-there : identity-at a whole ≡ take 16 (b ++ r)
     identity-there =
@@ -80,24 +80,24 @@ module _ (p r : Text) (a n : ℕ) (size : length p ≡ a) where
     split-there : whole ≡ (p ++ (2 ∷ b)) ++ r
     split-there = sym (append-assoc p (2 ∷ b) r)
 
-    length-there : length (p ++ (2 ∷ b)) ≡ a + 157
+    length-there : length (p ++ (2 ∷ b)) ≡ a + partner-size
     length-there = length-append p (2 ∷ b) ∙ omega arith
 
-    apart-there : (id : Text) → apart-from n (a + 157) id whole ≡ apart-from n 0 id r
+    apart-there : (id : Text) → apart-from n (a + partner-size) id whole ≡ apart-from n 0 id r
     apart-there id =
-        let i : a + 157 ≡ a + 157 + 0 = omega arith in
-        ap (λ (t : Text). apart-from n (a + 157) id t) split-there
+        let i : a + partner-size ≡ a + partner-size + 0 = omega arith in
+        ap (λ (t : Text). apart-from n (a + partner-size) id t) split-there
         ∙ ap (λ (j : ℕ). apart-from n j id ((p ++ (2 ∷ b)) ++ r)) i
-        ∙ ap (λ (k : ℕ). eqb k n) (seek-shift (p ++ (2 ∷ b)) r (a + 157) length-there n 0 0 id)
+        ∙ ap (λ (k : ℕ). eqb k n) (seek-shift (p ++ (2 ∷ b)) r (a + partner-size) length-there n 0 0 id)
 
     pass-used : records-legal (suc n) a whole ≡ rule.legal (entry-in b)
-        && apart-from n 0 (take 16 (b ++ r)) r && records-legal n (a + 157) ((p ++ (2 ∷ b)) ++ r)
+        && apart-from n 0 (take 16 (b ++ r)) r && records-legal n (a + partner-size) ((p ++ (2 ∷ b)) ++ r)
     unfolding records-legal record-legal record-length
     pass-used =
         let id : Text = take 16 (b ++ r) in
         let here = rule.legal (entry-in b) && apart-from n 0 id r in
-        rw (kind-there, le-leb (a + 157) (length whole) fits-there, entry-there, identity-there, apart-there id)
-        (ap (λ (t : Text). here && records-legal n (a + 157) t) split-there)
+        rw (kind-there, le-leb (a + partner-size) (length whole) fits-there, entry-there, identity-there, apart-there id)
+        (ap (λ (t : Text). here && records-legal n (a + partner-size) t) split-there)
 
 pass-end : (p : Text) (a : ℕ) → length p ≡ a → records-legal 0 a (p ++ []) ≡ true
 unfolding records-legal
@@ -126,8 +126,8 @@ pass-row (e ∷ slots) (used l k st) p a h =
     ap (λ (t : Text). records-legal (suc n) a (p ++ t)) (partner-bytes e s (legal-full e l))
     ∙ pass-used p s a n h b (k .size)
     ∙ three (rule.legal (entry-in b)) (apart-from n 0 (take 16 (b ++ s)) s) (differs id (identities slots))
-    (records-legal n (a + 157) ((p ++ (2 ∷ b)) ++ s)) (apart (identities slots)) (ap rule.legal (k .back) ∙ l) d
-    (pass-row slots st (p ++ (2 ∷ b)) (a + 157) (length-there p s a n h b (k .size)))
+    (records-legal n (a + partner-size) ((p ++ (2 ∷ b)) ++ s)) (apart (identities slots)) (ap rule.legal (k .back) ∙ l) d
+    (pass-row slots st (p ++ (2 ∷ b)) (a + partner-size) (length-there p s a n h b (k .size)))
     ∙ ap apart (sym (identities-full e slots (legal-full e l)))
 
 -- ---- a row that passes is stored as it is read
@@ -135,26 +135,26 @@ pass-row (e ∷ slots) (used l k st) p a h =
 -- what a pass found right at a place
 pub data There (n at : ℕ) (s : Text) : Type 0 where
   a-vacant : getD s at 0 ≡ 0 → at < length s → There n at s
-  a-partner : getD s at 0 ≡ 2 → at + 157 ≤ length s → rule.legal (entry-at at s) ≡ true → There n at s
+  a-partner : getD s at 0 ≡ 2 → at + partner-size ≤ length s → rule.legal (entry-at at s) ≡ true → There n at s
 
 there : (n at : ℕ) (s : Text) → record-legal n at s ≡ true → There n at s
 unfolding record-legal
 there n at s h = go (eqb (getD s at 0) 0) refl h
   where
     rest : Bool
-    rest = apart-from n (at + 157) (identity-at at s) s
+    rest = apart-from n (at + partner-size) (identity-at at s) s
 
     go : (b : Bool) → eqb (getD s at 0) 0 ≡ b
         → cond b (ltb at (length s))
-        (eqb (getD s at 0) 2 && leb (at + 157) (length s) && rule.legal (entry-at at s) && rest)
+        (eqb (getD s at 0) 2 && leb (at + partner-size) (length s) && rule.legal (entry-at at s) && rest)
         ≡ true
         → There n at s
     go true z h = a-vacant (eqb-true (getD s at 0) 0 z) (ltb-true at (length s) h)
     go false z h =
-        let x = both (eqb (getD s at 0) 2 && leb (at + 157) (length s) && rule.legal (entry-at at s)) rest h in
-        let y = both (eqb (getD s at 0) 2 && leb (at + 157) (length s)) (rule.legal (entry-at at s)) (x .0) in
-        let w = both (eqb (getD s at 0) 2) (leb (at + 157) (length s)) (y .0) in
-        a-partner (eqb-true (getD s at 0) 2 (w .0)) (leb-true (at + 157) (length s) (w .1)) (y .1)
+        let x = both (eqb (getD s at 0) 2 && leb (at + partner-size) (length s) && rule.legal (entry-at at s)) rest h in
+        let y = both (eqb (getD s at 0) 2 && leb (at + partner-size) (length s)) (rule.legal (entry-at at s)) (x .0) in
+        let w = both (eqb (getD s at 0) 2) (leb (at + partner-size) (length s)) (y .0) in
+        a-partner (eqb-true (getD s at 0) 2 (w .0)) (leb-true (at + partner-size) (length s) (w .1)) (y .1)
 
 pub length-row : (n : ℕ) (s : Text) → length (slots-in n s) ≡ n
 unfolding slots-in
@@ -183,19 +183,19 @@ row-vacant n at s g h row =
           ∙ ap (λ (t : Text). 0 ∷ t) (row .bytes) ∙ sym d;
     }
 
-row-used : (n at : ℕ) (s : Text) → all-octets s ≡ true → getD s at 0 ≡ 2 → at + 157 ≤ length s
-    → rule.legal (entry-at at s) ≡ true → Row n (at + 157) s → Row (suc n) at s
+row-used : (n at : ℕ) (s : Text) → all-octets s ≡ true → getD s at 0 ≡ 2 → at + partner-size ≤ length s
+    → rule.legal (entry-at at s) ≡ true → Row n (at + partner-size) s → Row (suc n) at s
 unfolding entry-at
 row-used n at s o g h l row =
-    let b = take 156 (drop (at + 1) s) in
+    let b = take entry-size (drop (at + 1) s) in
     let e = entry-in b in
-    let r = drop (at + 157) s in
-    let size : length b ≡ 156 = length-take-le 156 (drop (at + 1) s) (omega (arith, length-drop (at + 1) s)) in
-    let back : entry-bytes e ≡ b = read-written b size (octets-part s (at + 1) 156 o) in
-    let i : at + 1 + 156 ≡ at + 157 = omega arith in
+    let r = drop (at + partner-size) s in
+    let size : length b ≡ entry-size = length-take-le entry-size (drop (at + 1) s) (omega (arith, length-drop (at + 1) s)) in
+    let back : entry-bytes e ≡ b = read-written b size (octets-part s (at + 1) entry-size o) in
+    let i : at + 1 + entry-size ≡ at + partner-size = omega arith in
     let c : drop (at + 1) s ≡ b ++ r =
-    sym (take-append-drop 156 (drop (at + 1) s))
-    ∙ ap (λ (t : Text). b ++ t) (drop-drop 156 (at + 1) s ∙ ap (λ (j : ℕ). drop j s) i) in
+    sym (take-append-drop entry-size (drop (at + 1) s))
+    ∙ ap (λ (t : Text). b ++ t) (drop-drop entry-size (at + 1) s ∙ ap (λ (j : ℕ). drop j s) i) in
     let d : drop at s ≡ 2 ∷ (b ++ r) =
     drop-step s at (omega arith) ∙ ap (λ (x : ℕ). x ∷ drop (at + 1) s) g ∙ ap (λ (t : Text). 2 ∷ t) c in
     let m : slots-in (suc n) (drop at s) ≡ e ∷ slots-in n r = ap (slots-in (suc n)) d ∙ partner-in n b r size in
@@ -218,4 +218,4 @@ row (suc n) at s o h =
     go (a-vacant g l) r f =
         row-vacant n at s g l (f (at + 1) (ap (λ (x : ℕ). records-legal n (at + record-length x) s) (sym g) ∙ r))
     go (a-partner g l e) r f =
-        row-used n at s o g l e (f (at + 157) (ap (λ (x : ℕ). records-legal n (at + record-length x) s) (sym g) ∙ r))
+        row-used n at s o g l e (f (at + partner-size) (ap (λ (x : ℕ). records-legal n (at + record-length x) s) (sym g) ∙ r))

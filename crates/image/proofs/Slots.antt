@@ -14,11 +14,11 @@ use Rattle.octets.proofs.Comparing.{both, all-drop, octets-part}
 use Rattle.partner.specs.declared.Entry.{Entry}
 use Rattle.partner.specs.Entry.{empty}
 use Rattle.partner.specs.Legal as rule
-use Rattle.partner.specs.Record.{entry-bytes, entry-in}
+use Rattle.partner.specs.Record.{entry-bytes, entry-in, entry-size}
 use Rattle.partner.specs.Held.{Held}
-use Rattle.partner.proofs.Joining.{entry-held}
+use Rattle.partner.proofs.Storing.{entry-held}
 use Rattle.partner.specs.Table.{is-empty, slots-legal, identities, AllHeld}
-use Rattle.image.specs.Image.{record-length, slot-bytes, slots-bytes, slot-in, slots-in}
+use Rattle.image.specs.Image.{record-length, slot-bytes, slots-bytes, slot-in, slots-in, partner-size}
 use Rattle.image.proofs.Entries.{Kept, held-kept, size-in, empty-held, empty-is, is-empty-empty, legal-full}
 
 -- each slot the empty one, or a legal entry that its record gives back
@@ -41,7 +41,7 @@ pub vacant-size : length (slot-bytes empty) ≡ 1
 unfolding slot-bytes
 vacant-size = rw empty-is
 
-pub used-size : (e : Entry) → rule.legal e ≡ true → Kept e → length (slot-bytes e) ≡ 157
+pub used-size : (e : Entry) → rule.legal e ≡ true → Kept e → length (slot-bytes e) ≡ partner-size
 unfolding slot-bytes
 used-size e h k = rw (legal-full e h) (ap suc (k .size))
 
@@ -56,9 +56,9 @@ pub vacant-in : (n : ℕ) (s : Text) → slots-in (suc n) (0 ∷ s) ≡ empty �
 unfolding slots-in slot-in record-length
 vacant-in n s = refl
 
-pub partner-in : (n : ℕ) (b s : Text) → length b ≡ 156 → slots-in (suc n) (2 ∷ (b ++ s)) ≡ entry-in b ∷ slots-in n s
+pub partner-in : (n : ℕ) (b s : Text) → length b ≡ entry-size → slots-in (suc n) (2 ∷ (b ++ s)) ≡ entry-in b ∷ slots-in n s
 unfolding slots-in slot-in record-length
-partner-in n b s h = rw (take-at b s 156 h, drop-at b s 156 h)
+partner-in n b s h = rw (take-at b s entry-size h, drop-at b s entry-size h)
 
 -- ---- the row
 
@@ -92,7 +92,7 @@ read-vacant n e slots z p =
     let a : e ≡ empty = cc in
     record { first = inl a; rest = cc }
 
-partner-raw : (n : ℕ) (t : Text) → slots-in (suc n) (2 ∷ t) ≡ entry-in (take 156 t) ∷ slots-in n (drop 156 t)
+partner-raw : (n : ℕ) (t : Text) → slots-in (suc n) (2 ∷ t) ≡ entry-in (take entry-size t) ∷ slots-in n (drop entry-size t)
 unfolding slots-in slot-in record-length
 partner-raw n t = refl
 
@@ -102,9 +102,9 @@ read-used n e slots z p =
     let r = slots-bytes slots in
     let t : Text = entry-bytes e ++ r in
     let w : e ∷ slots ≡ slots-in (suc n) (2 ∷ t) = p ∙ ap (slots-in (suc n)) (partner-bytes e r z) in
-    let q : e ∷ slots ≡ entry-in (take 156 t) ∷ slots-in n (drop 156 t) = w ∙ partner-raw n t in
-    let a : e ≡ entry-in (take 156 t) = cc in
-    let k : length (entry-bytes e) ≡ 156 = ap (λ (x : Entry). length (entry-bytes x)) a ∙ size-in (take 156 t) in
+    let q : e ∷ slots ≡ entry-in (take entry-size t) ∷ slots-in n (drop entry-size t) = w ∙ partner-raw n t in
+    let a : e ≡ entry-in (take entry-size t) = cc in
+    let k : length (entry-bytes e) ≡ entry-size = ap (λ (x : Entry). length (entry-bytes x)) a ∙ size-in (take entry-size t) in
     let v : e ∷ slots ≡ entry-in (entry-bytes e) ∷ slots-in n r = w ∙ partner-in n (entry-bytes e) r k in
     let b : entry-in (entry-bytes e) ≡ e = cc in
     record { first = inr (z, record { size = k; back = b }); rest = cc }
@@ -155,8 +155,8 @@ row-held (suc n) s o =
     let m = record-length (getD s 0 0) in
     (go (eqb (getD s 0 0) 2), row-held n (drop m s) (all-drop (λ b. ltb b 256) m s o))
   where
-    go : (b : Bool) → Held (cond b (entry-in (take 156 (drop 1 s))) empty)
-    go true = entry-held (take 156 (drop 1 s)) (octets-part s 1 156 o)
+    go : (b : Bool) → Held (cond b (entry-in (take entry-size (drop 1 s))) empty)
+    go true = entry-held (take entry-size (drop 1 s)) (octets-part s 1 entry-size o)
     go false = empty-held
 
 pub slots-legal-stored : (slots : List Entry) → Stored slots → slots-legal slots ≡ true
@@ -167,7 +167,7 @@ slots-legal-stored (e ∷ slots) (used h k st) = rw (legal-full e h, h) (slots-l
 
 -- at least a byte a slot, at most 157
 pub slots-size : (slots : List Entry) → Stored slots
-    → (length slots ≤ length (slots-bytes slots)) × (length (slots-bytes slots) ≤ 157 * length slots)
+    → (length slots ≤ length (slots-bytes slots)) × (length (slots-bytes slots) ≤ partner-size * length slots)
 slots-size [] end = (omega arith, omega arith)
 slots-size (e ∷ slots) (vacant st) =
     let i = slots-size slots st in

@@ -13,9 +13,9 @@ use Rattle.octets.specs.Text.{Text, same}
 use Rattle.octets.specs.Number.{copies}
 use Rattle.partner.specs.declared.Entry.{Entry}
 use Rattle.partner.specs.Entry.{empty}
-use Rattle.partner.specs.Record.{entry-bytes}
+use Rattle.partner.specs.Record.{entry-bytes, entry-size}
 use Rattle.partner.specs.Table.{is-empty, identities, differs, find, put, behind, into-free-slot}
-use Rattle.image.specs.Image.{record-length, slot-bytes, slots-bytes}
+use Rattle.image.specs.Image.{record-length, slot-bytes, slots-bytes, partner-size}
 use Rattle.image.specs.Places.{seek-slot, seek-free, past}
 use Rattle.image.specs.Pass.{apart-from}
 use Rattle.image.proofs.Entries.{empty-is, legal-full, identity-front}
@@ -132,12 +132,12 @@ seek-vacant : (n k : ℕ) (id s : Text) → seek-slot (suc n) k 0 id (0 ∷ s) �
 unfolding seek-slot record-length
 seek-vacant n k id s = seek-shift (0 ∷ []) s 1 refl n (k + 1) 0 id
 
-seek-used : (n k : ℕ) (id b s : Text) → length b ≡ 156
+seek-used : (n k : ℕ) (id b s : Text) → length b ≡ entry-size
     → seek-slot (suc n) k 0 id (2 ∷ (b ++ s)) ≡ cond (same (take 16 (b ++ s)) id) k (seek-slot n (k + 1) 0 id s)
 unfolding seek-slot record-length
 seek-used n k id b s h =
-    let i : seek-slot n (k + 1) 157 id (2 ∷ (b ++ s)) ≡ seek-slot n (k + 1) 0 id s =
-    seek-shift (2 ∷ b) s 157 (ap suc h) n (k + 1) 0 id in
+    let i : seek-slot n (k + 1) partner-size id (2 ∷ (b ++ s)) ≡ seek-slot n (k + 1) 0 id s =
+    seek-shift (2 ∷ b) s partner-size (ap suc h) n (k + 1) 0 id in
     rw i
 
 seek-nothing : (k : ℕ) (id s : Text) → seek-slot 0 k 0 id s ≡ k + 0
@@ -198,10 +198,10 @@ free-vacant : (n k : ℕ) (s : Text) → seek-free (suc n) k 0 (0 ∷ s) ≡ k
 unfolding seek-free
 free-vacant n k s = refl
 
-free-used : (n k : ℕ) (b s : Text) → length b ≡ 156
+free-used : (n k : ℕ) (b s : Text) → length b ≡ entry-size
     → seek-free (suc n) k 0 (2 ∷ (b ++ s)) ≡ seek-free n (k + 1) 0 s
 unfolding seek-free record-length
-free-used n k b s h = free-shift (2 ∷ b) s 157 (ap suc h) n (k + 1) 0
+free-used n k b s h = free-shift (2 ∷ b) s partner-size (ap suc h) n (k + 1) 0
 
 free-nothing : (k : ℕ) (s : Text) → seek-free 0 k 0 s ≡ k + 0
 unfolding seek-free
@@ -226,9 +226,9 @@ past-first : (n : ℕ) (s : Text) → past (suc n) 0 (0 ∷ s) ≡ 1 + past n 0 
 unfolding past record-length
 past-first n s = past-shift (0 ∷ []) s 1 refl n 0
 
-past-used : (n : ℕ) (b s : Text) → length b ≡ 156 → past (suc n) 0 (2 ∷ (b ++ s)) ≡ 157 + past n 0 s
+past-used : (n : ℕ) (b s : Text) → length b ≡ entry-size → past (suc n) 0 (2 ∷ (b ++ s)) ≡ partner-size + past n 0 s
 unfolding past record-length
-past-used n b s h = past-shift (2 ∷ b) s 157 (ap suc h) n 0
+past-used n b s h = past-shift (2 ∷ b) s partner-size (ap suc h) n 0
 
 past-nothing : (s : Text) → past 0 0 s ≡ 0
 unfolding past

@@ -10,8 +10,8 @@ use lib.Seq.{getD-drop, drop-drop}
 use borrow.Author.Tests.{eq-eqb, ne-eqb}
 use Rattle.octets.specs.Text.{Text}
 use Rattle.partner.specs.Entry.{empty}
-use Rattle.partner.specs.Record.{entry-in}
-use Rattle.image.specs.Image.{record-length, slot-in, slots-in}
+use Rattle.partner.specs.Record.{entry-in, entry-size}
+use Rattle.image.specs.Image.{record-length, slot-in, slots-in, front-size}
 use Rattle.image.specs.Places.{past, slot-place, entry-at}
 
 -- past the slots
@@ -40,19 +40,19 @@ slot-by : (p : ℕ) (s : Text) → slot-in (drop p s) ≡ cond (eqb (getD s p 0)
 unfolding slot-in entry-at
 slot-by p s =
     let kind : getD (drop p s) 0 0 ≡ getD s p 0 = getD-drop p s 0 0 ∙ ap (λ (i : ℕ). getD s i 0) (add-zero p) in
-    ap (λ (x : ℕ). cond (eqb x 2) (entry-in (take 156 (drop 1 (drop p s)))) empty) kind
-    ∙ ap (λ (t : Text). cond (eqb (getD s p 0) 2) (entry-in (take 156 t)) empty) (drop-drop 1 p s)
+    ap (λ (x : ℕ). cond (eqb x 2) (entry-in (take entry-size (drop 1 (drop p s)))) empty) kind
+    ∙ ap (λ (t : Text). cond (eqb (getD s p 0) 2) (entry-in (take entry-size t)) empty) (drop-drop 1 p s)
 
 module _ (k : ℕ) (s : Text) (h : k < 64) where
   abbrev at : ℕ
   at = slot-place k s
 
-  slot-is : getD (slots-in 64 (drop 17 s)) k empty ≡ cond (eqb (getD s at 0) 2) (entry-at at s) empty
+  slot-is : getD (slots-in 64 (drop front-size s)) k empty ≡ cond (eqb (getD s at 0) 2) (entry-at at s) empty
   unfolding slot-place
-  slot-is = slot-there 64 k 17 s h ∙ slot-by (past k 17 s) s
+  slot-is = slot-there 64 k front-size s h ∙ slot-by (past k front-size s) s
 
-  pub partner-there : getD s at 0 ≡ 2 → entry-at at s ≡ getD (slots-in 64 (drop 17 s)) k empty
+  pub partner-there : getD s at 0 ≡ 2 → entry-at at s ≡ getD (slots-in 64 (drop front-size s)) k empty
   partner-there e = sym (slot-is ∙ ap (λ (b : Bool). cond b (entry-at at s) empty) (eq-eqb (getD s at 0) 2 e))
 
-  pub nobody-there : (getD s at 0 ≡ 2 → ⊥) → empty ≡ getD (slots-in 64 (drop 17 s)) k empty
+  pub nobody-there : (getD s at 0 ≡ 2 → ⊥) → empty ≡ getD (slots-in 64 (drop front-size s)) k empty
   nobody-there e = sym (slot-is ∙ ap (λ (b : Bool). cond b (entry-at at s) empty) (ne-eqb (getD s at 0) 2 e))

@@ -1,16 +1,16 @@
 -- One step of each loop over the records, and parts of an image.
 use mathlib.Core.Path.{_≡_, refl, sym, ap, _∙_}
 use mathlib.Core.Bool.{Bool, true, false, cond, _&&_}
-use mathlib.Core.List.{[], _∷_}
-use Prim.Native.Nat.{ℕ, zero, suc, _+_, _-_, _≤_, _<_, min}
+use mathlib.Core.List.{List, [], _∷_}
+use Prim.Native.Nat.{ℕ, zero, suc, _+_, _-_, _≤_, _<_, min, max}
 use native.Mathlib.Omega.{arith}
 use lib.Dec.{eqb, ltb, leb}
 use lib.ListN.{length, take, drop, getD, length-drop, drop-of-length-le}
 use lib.Seq.{take-all}
 use borrow.Author.Tests.{eq-eqb, ne-eqb, le-leb, lt-leb, leb-true, leb-false}
-use Rattle.octets.specs.Text.{Text}
+use Rattle.octets.specs.Text.{Text, same}
 use Rattle.partner.specs.Legal as rule
-use Rattle.image.specs.Image.{record-length}
+use Rattle.image.specs.Image.{kinds, body, record-length, partner-size, front-size}
 use Rattle.image.specs.Places.{own-in, is-partner, seek-slot, seek-free, past, entry-at}
 use Rattle.image.specs.Pass.{identity-at, apart-from, front-legal, record-legal}
 
@@ -67,23 +67,31 @@ past-end s at h =
 
 -- ---- the length of a record
 
-pub length-two : (kind : ℕ) → kind ≡ 2 → record-length kind ≡ 157
-unfolding record-length
-length-two kind h = rw (eq-eqb kind 2 h)
+-- the longest body of a table of kinds
+abbrev longest : List (ℕ × ℕ) → ℕ
+longest [] = 0
+longest (row ∷ rows) = max (row .1) (longest rows)
 
-pub length-other : (kind : ℕ) → (kind ≡ 2 → ⊥) → record-length kind ≡ 1
-unfolding record-length
-length-other kind h = rw (ne-eqb kind 2 h)
-
-pub length-small : (kind : ℕ) → record-length kind ≤ 157
-unfolding record-length
-length-small kind = go (eqb kind 2)
+body-most : (kind : ℕ) (rows : List (ℕ × ℕ)) → body rows kind ≤ longest rows
+body-most kind [] = omega arith
+body-most kind (row ∷ rows) = go (eqb kind (row .0)) (body-most kind rows)
   where
-    go : (b : Bool) → cond b 157 1 ≤ 157
-    go true = omega arith
-    go false = omega arith
+    go : (b : Bool) → body rows kind ≤ longest rows → cond b (row .1) (body rows kind) ≤ max (row .1) (longest rows)
+    go true h = omega arith
+    go false h = omega arith
+
+pub length-small : (kind : ℕ) → record-length kind ≤ partner-size
+unfolding record-length
+length-small kind = omega (arith, body-most kind kinds)
 
 -- ---- the searches
+
+-- by whether the kind is 2
+pub partner-there : (at : ℕ) (id s : Text) → getD s at 0 ≡ 2 → is-partner at id s ≡ same (identity-at at s) id
+partner-there at id s h = rw (eq-eqb (getD s at 0) 2 h)
+
+pub partner-elsewhere : (at : ℕ) (id s : Text) → (getD s at 0 ≡ 2 → ⊥) → is-partner at id s ≡ false
+partner-elsewhere at id s h = rw (ne-eqb (getD s at 0) 2 h)
 
 pub seek-end : (n k at : ℕ) (id s : Text) → n ≡ 0 → seek-slot n k at id s ≡ k
 unfolding seek-slot
@@ -138,7 +146,7 @@ unfolding front-legal
 front-other s h = rw (ne-eqb (getD s 0 0) 1 h)
 
 pub front-ours : (s : Text) → getD s 0 0 ≡ 1
-    → front-legal s ≡ rule.is-filled (own-in s) && apart-from 64 17 (own-in s) s
+    → front-legal s ≡ rule.is-filled (own-in s) && apart-from 64 front-size (own-in s) s
 unfolding front-legal
 front-ours s h = rw (eq-eqb (getD s 0 0) 1 h)
 
@@ -153,11 +161,11 @@ module _ (n at : ℕ) (s : Text) where
   unfolding record-legal
   legal-other h k = rw (ne-eqb (getD s at 0) 0 h, ne-eqb (getD s at 0) 2 k)
 
-  pub legal-short : getD s at 0 ≡ 2 → length s < at + 157 → record-legal n at s ≡ false
+  pub legal-short : getD s at 0 ≡ 2 → length s < at + partner-size → record-legal n at s ≡ false
   unfolding record-legal
-  legal-short h k = rw (h, lt-leb (at + 157) (length s) k)
+  legal-short h k = rw (h, lt-leb (at + partner-size) (length s) k)
 
-  pub legal-whole : getD s at 0 ≡ 2 → at + 157 ≤ length s → record-legal n at s
-      ≡ rule.legal (entry-at at s) && apart-from n (at + 157) (identity-at at s) s
+  pub legal-whole : getD s at 0 ≡ 2 → at + partner-size ≤ length s → record-legal n at s
+      ≡ rule.legal (entry-at at s) && apart-from n (at + partner-size) (identity-at at s) s
   unfolding record-legal
-  legal-whole h k = rw (h, le-leb (at + 157) (length s) k)
+  legal-whole h k = rw (h, le-leb (at + partner-size) (length s) k)

@@ -14,10 +14,10 @@ use Rattle.octets.specs.Number.{copies}
 use Rattle.octets.proofs.Comparing.{both}
 use Rattle.partner.specs.declared.Entry.{Entry}
 use Rattle.partner.specs.Entry.{empty}
-use Rattle.partner.specs.Record.{entry-bytes}
+use Rattle.partner.specs.Record.{entry-bytes, entry-size}
 use Rattle.partner.proofs.Naming.{filled-length}
 use Rattle.partner.specs.Table.{Table, is-empty, identities, differs, apart, holding}
-use Rattle.image.specs.Image.{slot-bytes, slots-bytes, encode, decode}
+use Rattle.image.specs.Image.{slot-bytes, slots-bytes, encode, decode, front-size, partner-size}
 use Rattle.image.specs.Places.{own-in, seek-slot, slot-of, seek-free, free-slot, slot-place, splice, with-entry}
 use Rattle.image.proofs.Slots.{Stored, slots-legal-stored}
 use Rattle.image.proofs.Images.{Rules, rules, rules-legal, Decoded, decode-encode}
@@ -38,13 +38,13 @@ splice-size at k t s h =
 
 -- a record put back is its kind's byte and its body replaced
 pub entry-splice : (at : ℕ) (e : Entry) (s : Text) → getD s at 0 ≡ 2 → at < length s
-    → with-entry at e s ≡ splice at 157 (2 ∷ entry-bytes e) s
+    → with-entry at e s ≡ splice at partner-size (2 ∷ entry-bytes e) s
 unfolding with-entry splice
 entry-splice at e s k h =
     let a : take (at + 1) s ≡ take at s ++ (2 ∷ []) =
     ap (λ (i : ℕ). take i s) (add-one at) ∙ take-suc s at 0 h ∙ ap (λ (x : ℕ). take at s ++ (x ∷ [])) k in
-    let i : at + 1 + 156 ≡ at + 157 = omega arith in
-    let r = entry-bytes e ++ drop (at + 157) s in
+    let i : at + 1 + entry-size ≡ at + partner-size = omega arith in
+    let r = entry-bytes e ++ drop (at + partner-size) s in
     ap (λ (j : ℕ). take (at + 1) s ++ (entry-bytes e ++ drop j s)) i ∙ ap (λ (t : Text). t ++ r) a
     ∙ append-assoc (take at s) (2 ∷ []) r
 
@@ -77,7 +77,7 @@ module _ (s : Text) (t : Table) (d : Decoded s t) where
   unfolding slot-of
   slot-there id real =
       let r = slots-bytes (t .slots) in
-      ap (seek-slot 64 0 17 id) split ∙ seek-shift (1 ∷ t .own) r 17 (ap suc own-16) 64 0 0 id
+      ap (seek-slot 64 0 front-size id) split ∙ seek-shift (1 ∷ t .own) r front-size (ap suc own-16) 64 0 0 id
       ∙ ap (λ (n : ℕ). seek-slot n 0 0 id r) (sym (kept-rules .slots-64))
       ∙ omega (arith, row-seek id real (t .slots) (d .stored) 0)
 
@@ -85,16 +85,16 @@ module _ (s : Text) (t : Table) (d : Decoded s t) where
   unfolding free-slot
   free-there =
       let r = slots-bytes (t .slots) in
-      ap (seek-free 64 0 17) split ∙ free-shift (1 ∷ t .own) r 17 (ap suc own-16) 64 0 0
+      ap (seek-free 64 0 front-size) split ∙ free-shift (1 ∷ t .own) r front-size (ap suc own-16) 64 0 0
       ∙ ap (λ (n : ℕ). seek-free n 0 0 r) (sym (kept-rules .slots-64))
       ∙ omega (arith, row-free (t .slots) (d .stored) 0)
 
   -- where a slot's record stands
-  place-there : (k : ℕ) → k < 64 → slot-place k s ≡ 17 + length (slots-bytes (take k (t .slots)))
+  place-there : (k : ℕ) → k < 64 → slot-place k s ≡ front-size + length (slots-bytes (take k (t .slots)))
   unfolding slot-place
   place-there k h =
-      ap (slot-place k) split ∙ past-shift (1 ∷ t .own) (slots-bytes (t .slots)) 17 (ap suc own-16) k 0
-      ∙ ap (λ (n : ℕ). 17 + n) (row-past (t .slots) (d .stored) k (omega (arith, kept-rules .slots-64)))
+      ap (slot-place k) split ∙ past-shift (1 ∷ t .own) (slots-bytes (t .slots)) front-size (ap suc own-16) k 0
+      ∙ ap (λ (n : ℕ). front-size + n) (row-past (t .slots) (d .stored) k (omega (arith, kept-rules .slots-64)))
 
   pub cut : (k : ℕ) → k < 64 → Cut s t k
   unfolding encode

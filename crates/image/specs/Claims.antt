@@ -11,10 +11,11 @@ use Rattle.partner.specs.declared.Name.{Name}
 use Rattle.partner.specs.declared.Entry.{Entry}
 use Rattle.partner.specs.Entry.{empty}
 use Rattle.partner.specs.Held.{Held}
+use Rattle.partner.specs.Record.{entry-size}
 use Rattle.partner.specs.Legal as partner
 use Rattle.partner.specs.Table.{Table, is-empty, legal, identities, differs, find, into-free-slot}
 use Rattle.partner.specs.Table.{holding, started, AllHeld}
-use Rattle.image.specs.Image.{encode, decode}
+use Rattle.image.specs.Image.{smallest, largest, encode, decode}
 use Rattle.image.specs.Places.{slot-of, free-slot}
 use Rattle.image.specs.Results.{put-slot, added-slot, removed-slot}
 
@@ -31,11 +32,11 @@ pub record Claims : Type 0 where
   -- what is read is legal, and writing it gives the image, byte for byte
   pub read-then-write : (s : Text) (t : Table) → decode s ≡ some t → (legal t ≡ true) × (encode t ≡ s)
   pub read-is-held : (s : Text) (t : Table) → all-octets s ≡ true → decode s ≡ some t → AllHeld (t .slots)
-  -- largest image: 10,065 bytes; 64 empty slots: 81
-  pub image-sizes : (s : Text) (t : Table) → decode s ≡ some t → (81 ≤ length s) × (length s ≤ 10_065)
+  -- the largest image, and that of 64 empty slots
+  pub image-sizes : (s : Text) (t : Table) → decode s ≡ some t → (smallest ≤ length s) × (length s ≤ largest)
   -- and there is an image of each of the two
-  pub largest-image : (s : Text) × ((t : Table) × ((decode s ≡ some t) × (length s ≡ 10_065)))
-  pub smallest-image : (s : Text) × ((t : Table) × ((decode s ≡ some t) × (length s ≡ 81)))
+  pub largest-image : (s : Text) × ((t : Table) × ((decode s ≡ some t) × (length s ≡ largest)))
+  pub smallest-image : (s : Text) × ((t : Table) × ((decode s ≡ some t) × (length s ≡ smallest)))
   pub start-is-legal : (own : Name) → partner.is-filled (own .bytes) ≡ true
       → decode (encode (started own)) ≡ some (started own)
   -- a partner's slot is found exactly where the table has the partner, and holds its entry
@@ -59,8 +60,8 @@ pub record Claims : Type 0 where
       → is-empty (in-slot k t) ≡ true → partner.legal e ≡ true → Held e
       → differs (e .identity .bytes) (t .own ∷ identities (t .slots)) ≡ true
       → (u : Text) × ((added-slot k e s ≡ some u)
-      × ((decode u ≡ some (with-slot k e t)) × (length u ≡ length s + 156)))
+      × ((decode u ≡ some (with-slot k e t)) × (length u ≡ length s + entry-size)))
   -- a partner taken out: its slot empty, every other as it was
   pub partner-removed : (s : Text) (t : Table) (k : ℕ) → decode s ≡ some t → k < 64 → is-empty (in-slot k t) ≡ false
       → (u : Text) × ((removed-slot k s ≡ some u)
-      × ((decode u ≡ some (with-slot k empty t)) × (length u + 156 ≡ length s)))
+      × ((decode u ≡ some (with-slot k empty t)) × (length u + entry-size ≡ length s)))

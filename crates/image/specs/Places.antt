@@ -7,8 +7,8 @@ use lib.Dec.{eqb}
 use lib.ListN.{take, drop, getD}
 use Rattle.octets.specs.Text.{Text, same}
 use Rattle.partner.specs.declared.Entry.{Entry}
-use Rattle.partner.specs.Record.{entry-bytes, entry-in}
-use Rattle.image.specs.Image.{vacant, partner, record-length}
+use Rattle.partner.specs.Record.{entry-size, entry-bytes, entry-in}
+use Rattle.image.specs.Image.{vacant, partner, record-length, front-size, partner-size}
 
 -- our own identity
 abbrev pub own-in : Text → Text
@@ -27,7 +27,7 @@ seek-slot (suc n) k at id image =
 
 -- the partner's slot among the 64
 unfoldable pub slot-of : Text → Text → ℕ
-slot-of id image = seek-slot 64 0 17 id image
+slot-of id image = seek-slot 64 0 front-size id image
 
 -- likewise the lowest empty slot
 unfoldable pub seek-free : ℕ → ℕ → ℕ → Text → ℕ
@@ -36,7 +36,7 @@ seek-free (suc n) k at image =
     cond (eqb (getD image at 0) vacant) k (seek-free n (k + 1) (at + record-length (getD image at 0)) image)
 
 unfoldable pub free-slot : Text → ℕ
-free-slot image = seek-free 64 0 17 image
+free-slot image = seek-free 64 0 front-size image
 
 -- n records on from a place
 unfoldable pub past : ℕ → ℕ → Text → ℕ
@@ -45,11 +45,11 @@ past (suc n) at image = past n (at + record-length (getD image at 0)) image
 
 -- where the record of a slot stands
 unfoldable pub slot-place : ℕ → Text → ℕ
-slot-place k image = past k 17 image
+slot-place k image = past k front-size image
 
 -- the entry of the record at a place
 unfoldable pub entry-at : ℕ → Text → Entry
-entry-at at image = entry-in (take 156 (drop (at + 1) image))
+entry-at at image = entry-in (take entry-size (drop (at + 1) image))
 
 -- k bytes of an image from a place on replaced by a text
 unfoldable pub splice : ℕ → ℕ → Text → Text → Text
@@ -57,10 +57,10 @@ splice at k t image = take at image ++ (t ++ drop (at + k) image)
 
 -- an entry put back, a partner added in an empty slot, a partner taken out
 unfoldable pub with-entry : ℕ → Entry → Text → Text
-with-entry at e image = splice (at + 1) 156 (entry-bytes e) image
+with-entry at e image = splice (at + 1) entry-size (entry-bytes e) image
 
 unfoldable pub with-partner : ℕ → Entry → Text → Text
 with-partner at e image = splice at 1 (partner ∷ entry-bytes e) image
 
 unfoldable pub without-partner : ℕ → Text → Text
-without-partner at image = splice at 157 (vacant ∷ []) image
+without-partner at image = splice at partner-size (vacant ∷ []) image

@@ -7,18 +7,19 @@ use lib.Dec.{ltb, leb}
 use lib.ListN.{length, drop}
 use Rattle.octets.specs.Text.{Text}
 use Rattle.partner.specs.declared.Entry.{Entry}
+use Rattle.image.specs.Image.{partner-size}
 use Rattle.image.specs.Places.{slot-place, with-entry, with-partner, without-partner}
 
 -- an entry put back, where a partner's record lies whole in the image at that place; else the image as it was
 unfoldable pub put-back : ℕ → Entry → Text → Text
-put-back at e image = cond (leb (at + 157) (length image)) (with-entry at e image) image
+put-back at e image = cond (leb (at + partner-size) (length image)) (with-entry at e image) image
 
 -- the image with a partner added at a place, and with a partner's record taken out; none where that lies outside
 unfoldable pub added : ℕ → Entry → Text → Option Text
 added at e image = cond (ltb at (length image)) (some (with-partner at e image)) none
 
 unfoldable pub removed : ℕ → Text → Option Text
-removed at image = cond (leb (at + 157) (length image)) (some (without-partner at image)) none
+removed at image = cond (leb (at + partner-size) (length image)) (some (without-partner at image)) none
 
 -- the same by the number of a slot, of which there are 64
 unfoldable pub put-slot : ℕ → Entry → Text → Text

@@ -3,7 +3,7 @@
 ghost use mathlib.Core.Path.{_≡_};
 ghost use mathlib.Core.Option.{some};
 ghost use Prim.Native.Nat.{_+_, _*_, _≤_};
-ghost use lib.ListN.{length, drop, getD};
+ghost use lib.ListN.{length, take, drop, getD};
 ghost use Rattle.octets.specs.Part.{found};
 ghost use Rattle.octets.specs.Wrote.{Wrote};
 ghost use Rattle.partner.specs.Entry.{empty};
@@ -15,12 +15,19 @@ ghost use Rattle.image.specs.Results as results;
 use partner::Entry;
 use partner::Name;
 
+mod kinds;
 mod records;
 
-// The front's length, and how many records follow it.
-const FRONT: usize = 17;
+pub use kinds::FRONT_SIZE;
+pub use kinds::PARTNER_SIZE;
 
+// How many records follow the front.
 const SLOTS: usize = 64;
+
+// The image of so many empty slots, and of so many partners.
+const SMALLEST: usize = FRONT_SIZE + SLOTS;
+
+pub const LARGEST: usize = FRONT_SIZE + SLOTS * PARTNER_SIZE;
 
 // Our own identity, filled with blanks.
 pub fn own_identity(image: &[u8]) -> &[u8]
@@ -31,25 +38,35 @@ pub fn own_identity(image: &[u8]) -> &[u8]
 
 // ---- slots
 
-// The number of a partner's slot by its identity, filled with blanks; 64 where there is none.
-pub fn slot_of(image: &[u8], identity: &[u8]) -> usize
+// The number of the slot of an identity of 16 bytes; 64 where there is none.
+fn slot_named(image: &[u8], identity: &[u8]) -> usize
+    requires { ⌜ length (now identity) ≡ 16 ⌝ }
     ensures { λ r. ⌜ r ≡ places.slot-of (now (identity .entry)) (now (image .entry)) ⌝ }
 {
-    records::seek(image, identity, FRONT, SLOTS)
+    let first = records::number_at(identity, 0);
+    let second = records::number_at(identity, 8);
+    records::seek(image, first, second, FRONT_SIZE, SLOTS)
+}
+
+// The number of a partner's slot by its identity, filled with blanks; 64 where there is none.
+pub fn slot_of(image: &[u8], identity: &[u8; 16]) -> usize
+    ensures { λ r. ⌜ r ≡ places.slot-of (now (identity .entry)) (now (image .entry)) ⌝ }
+{
+    slot_named(image, identity)
 }
 
 // The number of the lowest empty slot; 64 where there is none.
 pub fn free_slot(image: &[u8]) -> usize
     ensures { λ r. ⌜ r ≡ places.free-slot (now (image .entry)) ⌝ }
 {
-    let mut at = FRONT;
+    let mut at = FRONT_SIZE;
     let mut slot = 0;
     while slot < SLOTS {
         let here = records::byte_at(image, at);
-        if here == 0 {
+        if here == kinds::VACANT {
             return slot;
         }
-        at += records::record_length(here);
+        at += kinds::record_length(here);
         slot += 1;
     }
     slot
@@ -60,10 +77,10 @@ fn slot_place(image: &[u8], slot: usize) -> usize
     requires { ⌜ slot ≤ 64 ⌝ }
     ensures { λ r. ⌜ r ≡ places.slot-place slot (now (image .entry)) ⌝ }
 {
-    let mut at = FRONT;
+    let mut at = FRONT_SIZE;
     let mut left = slot;
     while 0 < left {
-        at += records::record_length(records::byte_at(image, at));
+        at += kinds::record_length(records::byte_at(image, at));
         left -= 1;
     }
     at
@@ -71,13 +88,13 @@ fn slot_place(image: &[u8], slot: usize) -> usize
 
 // The entry of a slot, taken at the image's word; past the 64th an empty one.
 pub fn slot(image: &[u8], slot: usize) -> Entry
-    ensures { λ r. ⌜ r ≡ getD (images.slots-in 64 (drop 17 (now (image .entry)))) slot empty ⌝ }
+    ensures { λ r. ⌜ r ≡ getD (images.slots-in 64 (drop images.front-size (now (image .entry)))) slot empty ⌝ }
 {
     if SLOTS <= slot {
         return partner::empty();
     }
     let at = slot_place(image, slot);
-    if records::byte_at(image, at) == 2 {
+    if records::byte_at(image, at) == kinds::PARTNER {
         return records::entry_at(image, at);
     }
     partner::empty()
@@ -85,42 +102,44 @@ pub fn slot(image: &[u8], slot: usize) -> Entry
 
 // ---- legal
 
-// Whether none of `count` records from a place on has that identity.
-fn is_apart(image: &[u8], identity: &[u8], from: usize, count: usize) -> bool
-    requires { ⌜ from + 157 * count ≤ 10_065 ⌝ }
-    ensures { λ r. ⌜ r ≡ pass.apart-from count from (now (identity .entry)) (now (image .entry)) ⌝ }
+// Whether none of `count` records from a place on has the identity at another place.
+fn is_apart(image: &[u8], identity: usize, from: usize, count: usize) -> bool
+    requires { ⌜ (identity + 16 ≤ length (now image)) × (from + images.partner-size * count ≤ images.largest) ⌝ }
+    ensures { λ r. ⌜ r ≡ pass.apart-from count from (take 16 (drop identity (now (image .entry)))) (now (image .entry)) ⌝ }
 {
-    records::seek(image, identity, from, count) == count
+    let first = records::number_at(image, identity);
+    let second = records::number_at(image, identity + 8);
+    records::seek(image, first, second, from, count) == count
 }
 
 // Whether the front is: kind 1, and our identity, filled, which no partner has.
 fn front_legal(image: &[u8]) -> bool
     ensures { λ r. ⌜ r ≡ pass.front-legal (now (image .entry)) ⌝ }
 {
-    if records::byte_at(image, 0) != 1 {
+    if records::byte_at(image, 0) != kinds::OURS {
         return false;
     }
     let own = own_identity(image);
-    partner::is_filled(own) && is_apart(image, own, FRONT, SLOTS)
+    partner::is_filled(own) && is_apart(image, 1, FRONT_SIZE, SLOTS)
 }
 
 // Whether the record at a place is, with `left` behind it: an empty slot, or a legal entry with an identity of its own.
 fn record_legal(image: &[u8], at: usize, left: usize) -> bool
-    requires { ⌜ at + 157 + 157 * left ≤ 10_065 ⌝ }
+    requires { ⌜ at + images.partner-size + images.partner-size * left ≤ images.largest ⌝ }
     ensures { λ r. ⌜ r ≡ pass.record-legal left at (now (image .entry)) ⌝ }
 {
     let kind = records::byte_at(image, at);
-    if kind == 0 {
+    if kind == kinds::VACANT {
         return at < image.len();
     }
-    if kind != 2 {
+    if kind != kinds::PARTNER {
         return false;
     }
-    if image.len() < at + 157 {
+    let behind = at + PARTNER_SIZE;
+    if image.len() < behind {
         return false;
     }
-    partner::legal(records::entry_at(image, at))
-        && is_apart(image, records::part(image, at + 1, 16), at + 157, left)
+    partner::legal(records::entry_at(image, at)) && is_apart(image, at + 1, behind, left)
 }
 
 // Whether the image is that of a legal table.
@@ -130,14 +149,14 @@ pub fn legal(image: &[u8]) -> bool
     if !front_legal(image) {
         return false;
     }
-    let mut at = FRONT;
+    let mut at = FRONT_SIZE;
     let mut left = SLOTS;
     while 0 < left {
         left -= 1;
         if !record_legal(image, at, left) {
             return false;
         }
-        at += records::record_length(records::byte_at(image, at));
+        at += kinds::record_length(records::byte_at(image, at));
     }
     at == image.len()
 }
@@ -176,14 +195,13 @@ pub fn remove_slot(image: &[u8], slot: usize, out: &mut [u8]) -> usize
     records::remove_at(image, slot_place(image, slot), out)
 }
 
-// Our identity and 64 empty slots: 81 bytes.
+// Our identity and 64 empty slots.
 fn put_started(out: &mut [u8], own: Name) -> usize
-    requires { ⌜ 81 ≤ length (now out) ⌝ }
     ensures { λ r. ⌜ Wrote (images.encode (tables.started own)) (now (out .entry)) (now (out .exit)) r ⌝ }
 {
-    let a = octets::fill(out, 1, 1);
+    let a = octets::fill(out, 1, kinds::OURS);
     let b = a + octets::copy(&mut out[a..], &own.bytes);
-    b + octets::fill(&mut out[b..], 64, 0)
+    b + octets::fill(&mut out[b..], SLOTS, kinds::VACANT)
 }
 
 // The image of a table with our identity and 64 empty slots, in `out`; its length, 0 where there is no room for it.
@@ -191,7 +209,7 @@ pub fn start(own: Name, out: &mut [u8]) -> usize
     ensures { λ r. ⌜ now (out .exit) ≡ results.delivered (some (images.encode (tables.started own))) (now (out .entry)) ⌝ }
     ensures { λ r. ⌜ r ≡ results.size-delivered (some (images.encode (tables.started own))) (now (out .entry)) ⌝ }
 {
-    if out.len() < 81 {
+    if out.len() < SMALLEST {
         return 0;
     }
     put_started(out, own)

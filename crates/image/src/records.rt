@@ -1,22 +1,18 @@
-// Records by the byte of the image where they stand: read, looked for, put back, added and taken out. They are found by
-// their kinds; one function gives their lengths.
+// Records by the byte of the image where they stand: read, looked for, put back, added and taken out.
 ghost use mathlib.Core.Path.{_≡_};
 ghost use mathlib.Core.List.{_∷_};
 ghost use Prim.Native.Nat.{_+_, _*_, _<_, _≤_, min};
 ghost use lib.ListN.{length, take, drop, getD};
+ghost use Rattle.octets.specs.Text.{same};
+ghost use Rattle.octets.specs.Number.{number};
 ghost use Rattle.octets.specs.Wrote.{Wrote};
-ghost use Rattle.partner.specs.Record.{entry-bytes};
+ghost use Rattle.partner.specs.Record.{entry-size, entry-bytes};
 ghost use Rattle.image.specs.Image as images;
 ghost use Rattle.image.specs.Places as places;
+ghost use Rattle.image.specs.Pass as pass;
 ghost use Rattle.image.specs.Results as results;
+use crate::kinds;
 use partner::Entry;
-
-// The length of a record by its kind: a kind that is added later is one case more here.
-pub(crate) fn record_length(kind: u8) -> usize
-    ensures { λ r. ⌜ r ≡ images.record-length kind ⌝ }
-{
-    if kind == 2 { 157 } else { 1 }
-}
 
 // The smaller of the two.
 fn smaller(a: usize, b: usize) -> usize
@@ -47,34 +43,70 @@ pub(crate) fn entry_at(image: &[u8], at: usize) -> Entry
     ensures { λ r. ⌜ r ≡ places.entry-at at (now (image .entry)) ⌝ }
 {
     if at < image.len() {
-        record::entry_in(part(image, at + 1, 156))
+        record::entry_in(part(image, at + 1, record::SIZE))
     } else {
-        record::entry_in(part(image, at, 156))
+        record::entry_in(part(image, at, record::SIZE))
     }
 }
 
-// Whether the record at a place is the partner's with that identity.
-fn is_partner(image: &[u8], at: usize, identity: &[u8]) -> bool
-    ensures { λ r. ⌜ r ≡ places.is-partner at (now (identity .entry)) (now (image .entry)) ⌝ }
+// ---- identities as two numbers
+
+// A byte as a number.
+fn wide(b: u8) -> u64
+    ensures { λ r. ⌜ r ≡ b ⌝ }
+    ensures { λ r. ⌜ r < 256 ⌝ }
 {
-    if byte_at(image, at) != 2 {
+    b as u64
+}
+
+// The number of the eight bytes at a place, as a sum that compiles to one load.
+pub(crate) fn number_at(s: &[u8], at: usize) -> u64
+    requires { ⌜ at + 8 ≤ length (now s) ⌝ }
+    ensures { λ r. ⌜ r ≡ number (take 8 (drop at (now (s .entry)))) ⌝ }
+{
+    let b = at + 1;
+    let c = b + 1;
+    let d = c + 1;
+    let e = d + 1;
+    let f = e + 1;
+    let g = f + 1;
+    let h = g + 1;
+    let high = wide(s[at]) * 0x100_0000_0000_0000
+        + wide(s[b]) * 0x1_0000_0000_0000
+        + wide(s[c]) * 0x100_0000_0000
+        + wide(s[d]) * 0x1_0000_0000;
+    let low = wide(s[e]) * 0x100_0000 + wide(s[f]) * 0x1_0000 + wide(s[g]) * 0x100 + wide(s[h]);
+    high + low
+}
+
+// Whether the identity of the record at a place is that of the two numbers.
+fn is_there(image: &[u8], at: usize, first: u64, second: u64) -> bool
+    requires { ⌜ at < length (now image) ⌝ }
+    ensures { λ r. ⌜ r ≡ same (pass.identity-at at (now (image .entry))) (pass.of-numbers first second) ⌝ }
+{
+    if image.len() - at < kinds::FRONT_SIZE {
         return false;
     }
-    octets::same(part(image, at + 1, 16), identity)
+    number_at(image, at + 1) == first && number_at(image, at + 9) == second
 }
 
 // Of `count` records from a place on: the number of the partner's with that identity, `count` where there is none.
-pub(crate) fn seek(image: &[u8], identity: &[u8], from: usize, count: usize) -> usize
-    requires { ⌜ from + 157 * count ≤ 10_065 ⌝ }
-    ensures { λ r. ⌜ r ≡ places.seek-slot count 0 from (now (identity .entry)) (now (image .entry)) ⌝ }
+pub(crate) fn seek(image: &[u8], first: u64, second: u64, from: usize, count: usize) -> usize
+    requires { ⌜ from + images.partner-size * count ≤ images.largest ⌝ }
+    ensures { λ r. ⌜ r ≡ places.seek-slot count 0 from (pass.of-numbers first second) (now (image .entry)) ⌝ }
 {
     let mut at = from;
     let mut slot = 0;
     while slot < count {
-        if is_partner(image, at, identity) {
-            return slot;
+        let here = byte_at(image, at);
+        if here == kinds::PARTNER {
+            if is_there(image, at, first, second) {
+                return slot;
+            }
+            at += kinds::PARTNER_SIZE;
+        } else {
+            at += kinds::record_length(here);
         }
-        at += record_length(byte_at(image, at));
         slot += 1;
     }
     slot
@@ -92,19 +124,17 @@ pub(crate) fn put_at(image: &mut [u8], at: usize, e: Entry)
     }
 }
 
-// A partner's record, its kind and its body: 157 bytes.
+// A partner's record, its kind and its body.
 fn put_partner(rest: &mut [u8], e: Entry) -> usize
-    requires { ⌜ 157 ≤ length (now rest) ⌝ }
     ensures { λ r. ⌜ Wrote (images.partner ∷ entry-bytes e) (now (rest .entry)) (now (rest .exit)) r ⌝ }
-    ensures { λ r. ⌜ r ≡ 157 ⌝ }
 {
-    let a = octets::fill(rest, 1, 2);
-    a + record::put_entry(&mut rest[a..], e)
+    let a = octets::fill(rest, 1, kinds::PARTNER);
+    a + record::put_whole(&mut rest[a..], e)
 }
 
 // The image with a partner in the empty slot at a place.
 fn put_added(out: &mut [u8], image: &[u8], at: usize, e: Entry) -> usize
-    requires { ⌜ (at < length (now image)) × (length (now image) + 156 ≤ length (now out)) ⌝ }
+    requires { ⌜ at < length (now image) ⌝ }
     ensures { λ r. ⌜ Wrote (places.with-partner at e (now (image .entry))) (now (out .entry)) (now (out .exit)) r ⌝ }
 {
     let a = octets::copy(out, &image[..at]);
@@ -121,7 +151,7 @@ pub(crate) fn load_at(image: &[u8], at: usize, e: Entry, out: &mut [u8]) -> usiz
     if image.len() <= at {
         return 0;
     }
-    if out.len() < image.len() + 156 {
+    if out.len() < image.len() + record::SIZE {
         return 0;
     }
     put_added(out, image, at, e)
@@ -129,12 +159,12 @@ pub(crate) fn load_at(image: &[u8], at: usize, e: Entry, out: &mut [u8]) -> usiz
 
 // The image with an empty slot in place of a partner's record.
 fn put_removed(out: &mut [u8], image: &[u8], at: usize) -> usize
-    requires { ⌜ (at + 157 ≤ length (now image)) × (length (now image) ≤ length (now out) + 156) ⌝ }
+    requires { ⌜ at + images.partner-size ≤ length (now image) ⌝ }
     ensures { λ r. ⌜ Wrote (places.without-partner at (now (image .entry))) (now (out .entry)) (now (out .exit)) r ⌝ }
 {
     let a = octets::copy(out, &image[..at]);
-    let b = a + octets::fill(&mut out[a..], 1, 0);
-    let from = at + 157;
+    let b = a + octets::fill(&mut out[a..], 1, kinds::VACANT);
+    let from = at + kinds::PARTNER_SIZE;
     b + octets::copy(&mut out[b..], &image[from..])
 }
 
@@ -143,13 +173,13 @@ pub(crate) fn remove_at(image: &[u8], at: usize, out: &mut [u8]) -> usize
     ensures { λ r. ⌜ now (out .exit) ≡ results.delivered (results.removed at (now (image .entry))) (now (out .entry)) ⌝ }
     ensures { λ r. ⌜ r ≡ results.size-delivered (results.removed at (now (image .entry))) (now (out .entry)) ⌝ }
 {
-    if image.len() < 157 {
+    if image.len() < kinds::PARTNER_SIZE {
         return 0;
     }
-    if image.len() - 157 < at {
+    if image.len() - kinds::PARTNER_SIZE < at {
         return 0;
     }
-    if out.len() < image.len() - 156 {
+    if out.len() < image.len() - record::SIZE {
         return 0;
     }
     put_removed(out, image, at)

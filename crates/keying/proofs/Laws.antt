@@ -1,29 +1,62 @@
 -- Unsealing undoes sealing and the other way round, single or pair; so it is with an IV's value; a MAC has 32 bits.
-use mathlib.Core.Path.{_≡_, ap, _∙_}
+use mathlib.Core.Path.{_≡_, refl, sym, ap, _∙_}
+use mathlib.Core.Bool.{Bool, true, false, cond, not}
 use mathlib.Core.List.{List, [], _∷_, reverse}
 use Prim.Native.Nat.{ℕ, _/_, _^_, _<_}
 use native.Mathlib.Omega.{arith}
 use lib.Bits.{bitXor}
+use lib.ListN.{getD}
 use Rattle.octets.specs.Text.{Text}
 use Rattle.dea.specs.Dea.{schedule, cipher, encipher, decipher}
 use Rattle.dea.specs.Chain.{chain, chained, blocks-of}
 use Rattle.dea.proofs.Laws.{decipher-encipher, encipher-decipher, cipher-lt, encipher-lt, decipher-lt}
 use Rattle.keying.specs.declared.Top.{Top}
 use Rattle.keying.specs.declared.Top.the-variants.{Single, Pair}
-use Rattle.keying.specs.Keys.{seal, unseal}
+use Rattle.keying.specs.declared.Blocks.{Blocks}
+use Rattle.keying.specs.Keys.{halves, seal, unseal, way, each}
 use Rattle.keying.specs.Mac.{mac}
 use Rattle.keying.specs.Iv.{last-key, conceal, reveal}
 use Rattle.keying.specs.Claims.{Claims}
 
--- enciphering and deciphering under a schedule that is kept
-pub enciphered : (key x : ℕ) {ks : List ℕ} {r : ℕ} → ks ≡ schedule key → r ≡ cipher ks x → r ≡ encipher key x
-unfolding encipher
-enciphered key x k e = e ∙ ap (λ (l : List ℕ). cipher l x) k
+-- f of one block, and of two
+pub one-block : (f : ℕ → ℕ) (b : Blocks) {x : ℕ} → x ≡ f (b .first) → b .two ≡ false
+    → record { first = x; second = 0; two = false } ≡ each f b
+unfolding each
+one-block f b p t = λ j. record { first = p j; second = cond (sym t j) (f (b .second)) 0; two = sym t j }
 
-pub deciphered : (key x : ℕ) {ks : List ℕ} {r : ℕ} → ks ≡ schedule key → r ≡ cipher (reverse ks) x
-    → r ≡ decipher key x
-unfolding decipher
-deciphered key x k e = e ∙ ap (λ (l : List ℕ). cipher (reverse l) x) k
+pub two-blocks : (f : ℕ → ℕ) (b : Blocks) {x y : ℕ} → x ≡ f (b .first) → y ≡ f (b .second) → b .two ≡ true
+    → record { first = x; second = y; two = true } ≡ each f b
+unfolding each
+two-blocks f b p q t = λ j. record { first = p j; second = cond (sym t j) (q j) 0; two = sym t j }
+
+-- the first of what f made, and the second where there are two
+pub first-made : (f : ℕ → ℕ) (b : Blocks) {r : Blocks} → r ≡ each f b → r .first ≡ f (b .first)
+unfolding each
+first-made f b e = ap (λ (x : Blocks). x .first) e
+
+pub second-made : (f : ℕ → ℕ) (b : Blocks) {r : Blocks} → r ≡ each f b → b .two ≡ true → r .second ≡ f (b .second)
+unfolding each
+second-made f b e t = ap (λ (x : Blocks). x .second) e ∙ ap (λ (two : Bool). cond two (f (b .second)) 0) t
+
+-- the schedule of the left half, by the form of the key
+half : {t u : Top} {l : List ℕ} → l ≡ schedule (getD (halves t) 0 0) → t ≡ u → l ≡ schedule (getD (halves u) 0 0)
+half k e = k ∙ ap (λ (v : Top). schedule (getD (halves v) 0 0)) e
+
+-- a block under a single key and under a pair, each by its schedules
+pub single-way : (back : Bool) (key x : ℕ) {l : List ℕ} {t : Top} {y : ℕ} → l ≡ schedule (getD (halves t) 0 0)
+    → t ≡ Single key → y ≡ way back l x → y ≡ cond back (unseal t) (seal t) x
+unfolding seal unseal encipher decipher
+single-way true key x k t e = rw t (e ∙ ap (λ (l : List ℕ). cipher (reverse l) x) (half k t))
+single-way false key x k t e = rw t (e ∙ ap (λ (l : List ℕ). cipher l x) (half k t))
+
+pub pair-way : (back : Bool) (left right x : ℕ) {l r : List ℕ} {t : Top} {y : ℕ} → l ≡ schedule (getD (halves t) 0 0)
+    → r ≡ schedule right → t ≡ Pair left right → y ≡ way back l (way (not back) r (way back l x))
+    → y ≡ cond back (unseal t) (seal t) x
+unfolding seal unseal encipher decipher
+pair-way true left right x k q t e =
+    rw t (e ∙ (λ j. cipher (reverse (half k t j)) (cipher (q j) (cipher (reverse (half k t j)) x))))
+pair-way false left right x k q t e =
+    rw t (e ∙ (λ j. cipher (half k t j) (cipher (reverse (q j)) (cipher (half k t j) x))))
 
 pub unseal-seal : (key : Top) (x : ℕ) → x < 2 ^ 64 → unseal key (seal key x) ≡ x
 unfolding unseal seal

@@ -1,12 +1,13 @@
 -- Top keys, the working key of a message, and data keys enciphered under it.
-use mathlib.Core.Bool.{Bool}
-use mathlib.Core.List.{List, [], _∷_}
+use mathlib.Core.Bool.{Bool, cond}
+use mathlib.Core.List.{List, [], _∷_, reverse}
 use Prim.Native.Nat.{ℕ}
 use lib.Bits.{bitXor}
 use Rattle.octets.specs.Text.{all}
-use Rattle.dea.specs.Dea.{encipher, decipher}
+use Rattle.dea.specs.Dea.{cipher, encipher, decipher}
 use Rattle.keying.specs.declared.Top.{Top}
 use Rattle.keying.specs.declared.Top.the-variants.{Single, Pair}
+use Rattle.keying.specs.declared.Blocks.{Blocks}
 use Rattle.keying.specs.declared.DataKeys.{DataKeys}
 use Rattle.keying.specs.declared.DataKeys.the-variants.{None, One, Two}
 use Rattle.keying.specs.Parity.{odd}
@@ -38,6 +39,18 @@ seal (Pair left right) plain = encipher left (decipher right (encipher left plai
 unfoldable pub unseal : Top → ℕ → ℕ
 unseal (Single key) sealed = decipher key sealed
 unseal (Pair left right) sealed = decipher left (encipher right (decipher left sealed))
+
+-- the cipher under a schedule, K1 first or, back, K16 first
+abbrev pub way : Bool → List ℕ → ℕ → ℕ
+way back ks = cond back (cipher (reverse ks)) (cipher ks)
+
+-- what f makes of one data key or of each of two; without a second its place is zero
+unfoldable pub each : (ℕ → ℕ) → Blocks → Blocks
+each f blocks = record {
+  first = f (blocks .first);
+  second = cond (blocks .two) (f (blocks .second)) 0;
+  two = blocks .two;
+}
 
 -- the data keys of a message or of an entry, first and second
 abbrev pub listed : DataKeys → List ℕ

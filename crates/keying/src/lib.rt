@@ -1,10 +1,11 @@
 // Keys and MACs: parity, working keys, sealing, the MAC, an IV's value, an EDK's date.
 ghost use mathlib.Core.Path.{_≡_};
-ghost use mathlib.Core.Bool.{true};
+ghost use mathlib.Core.Bool.{true, cond, not};
 ghost use Prim.Native.Nat.{_+_, _<_};
+ghost use lib.ListN.{getD};
 ghost use Rattle.octets.specs.Text.{is-run, within};
 ghost use Rattle.keying.specs.Parity.{odd};
-ghost use Rattle.keying.specs.Keys.{odd-top, working, seal, unseal, listed};
+ghost use Rattle.keying.specs.Keys.{odd-top, working, seal, unseal, halves, way, each, listed};
 ghost use Rattle.keying.specs.Mac.{mac-key, mac};
 ghost use Rattle.keying.specs.Iv.{last-key, conceal, reveal};
 ghost use Rattle.keying.specs.Date.{leap, days-in, is-day, is-time, digit, two, is-date};
@@ -20,6 +21,13 @@ pub enum DataKeys {
     None,
     One(u64),
     Two(u64, u64),
+}
+
+// One data key or two, in clear or under a working key; without a second its place is zero.
+pub struct Blocks {
+    pub first: u64,
+    pub second: u64,
+    pub two: bool,
 }
 
 // Odd parity: each of the key's eight bytes has an odd number of ones.
@@ -58,32 +66,86 @@ pub fn working(top: Top, count: u64) -> Top
     }
 }
 
-// A data key under a working key.
-pub fn seal(key: Top, plain: u64) -> u64
-    ensures { λ r. ⌜ r ≡ seal key plain ⌝ }
+// A single key, or the left half of a pair.
+fn left_half(key: Top) -> u64
+    ensures { λ r. ⌜ r ≡ getD (halves key) 0 0 ⌝ }
 {
     match key {
-        Top::Single(single) => dea::encipher(single, plain),
-        Top::Pair(left, right) => {
-            let ks = dea::key_schedule(left);
-            let once = dea::encipher_with(&ks, plain);
-            dea::encipher_with(&ks, dea::decipher(right, once))
+        Top::Single(single) => single,
+        Top::Pair(left, _) => left,
+    }
+}
+
+// A block enciphered under a schedule or, back, deciphered.
+fn step(back: bool, ks: &[u64], x: u64) -> u64
+    ensures { λ r. ⌜ r ≡ way back (now (ks .entry)) x ⌝ }
+{
+    if back {
+        return dea::decipher_with(ks, x);
+    }
+    dea::encipher_with(ks, x)
+}
+
+// A block through the halves of a pair: ede or, back, ded.
+fn three_steps<'a>(back: bool, left: &'a [u64], right: &'a [u64], x: u64) -> u64
+    ensures { λ r. ⌜ r ≡ way back (now (left .entry)) (way (not back) (now (right .entry)) (way back (now (left .entry)) x)) ⌝ }
+{
+    step(back, left, step(!back, right, step(back, left, x)))
+}
+
+// Data keys under a working key or, back, from under it: each half is scheduled once for both.
+// One function for both ways: with two callers it keeps its schedules out of their stack frames.
+fn steps(back: bool, key: Top, blocks: Blocks) -> Blocks
+    ensures { λ r. ⌜ r ≡ each (cond back (unseal key) (seal key)) blocks ⌝ }
+{
+    let l = dea::key_schedule(left_half(key));
+    match key {
+        Top::Single(_) => {
+            let first = step(back, &l, blocks.first);
+            if !blocks.two {
+                return Blocks {
+                    first,
+                    second: 0,
+                    two: false,
+                };
+            }
+            Blocks {
+                first,
+                second: step(back, &l, blocks.second),
+                two: true,
+            }
+        }
+        Top::Pair(_, right) => {
+            let r = dea::key_schedule(right);
+            let first = three_steps(back, &l, &r, blocks.first);
+            if !blocks.two {
+                return Blocks {
+                    first,
+                    second: 0,
+                    two: false,
+                };
+            }
+            Blocks {
+                first,
+                second: three_steps(back, &l, &r, blocks.second),
+                two: true,
+            }
         }
     }
 }
 
-// A data key from under a working key.
-pub fn unseal(key: Top, sealed: u64) -> u64
-    ensures { λ r. ⌜ r ≡ unseal key sealed ⌝ }
+// Data keys under a working key.
+pub fn seal(key: Top, plain: Blocks) -> Blocks
+    ensures { λ r. ⌜ r ≡ each (seal key) plain ⌝ }
 {
-    match key {
-        Top::Single(single) => dea::decipher(single, sealed),
-        Top::Pair(left, right) => {
-            let ks = dea::key_schedule(left);
-            let once = dea::decipher_with(&ks, sealed);
-            dea::decipher_with(&ks, dea::encipher(right, once))
-        }
-    }
+    steps(false, key, plain)
+}
+
+// Data keys from under a working key.
+pub fn unseal(key: Top, sealed: Blocks) -> Blocks
+    ensures { λ r. ⌜ r ≡ each (unseal key) sealed ⌝ }
+{
+    steps(true, key, sealed)
 }
 
 // The key of a MAC: the one data key, or the exclusive-or of the two.

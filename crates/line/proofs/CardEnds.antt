@@ -1,4 +1,4 @@
--- The card's two ends as the theorem sees them: texts by their readings, entries by their fields.
+-- The card's two ends as the theorem sees them: texts by their readings, units by their fields.
 use mathlib.Core.Path.{_≡_, refl, ap, _∙_}
 use mathlib.Core.Bool.{Bool, true, false, cond}
 use mathlib.Core.List.{[]}
@@ -20,6 +20,8 @@ use Rattle.csm.specs.Message.{Ksm, Body, rsi, ksm, rsm, esm, option, Reading, r
 use Rattle.csm.specs.Covered.{covered-part}
 use Rattle.partner.specs.declared.DataKey.{DataKey}
 use Rattle.partner.specs.declared.KeySet.{KeySet}
+use Rattle.partner.specs.declared.Sending.{Sending}
+use Rattle.partner.specs.declared.Receiving.{Receiving}
 use Rattle.partner.specs.declared.Entry.{Entry}
 use Rattle.partner.specs.Entry.{name-of, keys-in, top-of, one-key, two-keys}
 use Rattle.partner.specs.Legal.{legal}
@@ -37,13 +39,13 @@ use Rattle.line.proofs.CardTurn.{partner, Plain, service, fault}
 
 -- ---- the top key of a loaded entry, and the keys that a message brings
 
-pub top-loaded : (other name : Text) (top : Top) → top-of (entry-for name top other) ≡ top
+pub top-loaded : (other name : Text) (top : Top) → top-of (entry-for name top other .top) ≡ top
 unfolding top-of loaded
 top-loaded other name (Single key) = refl
 top-loaded other name (Pair left right) = refl
 
 -- of the entry they depend on the top key alone
-pub brought-by-top : (e f : Entry) (m : Ksm) → top-of e ≡ top-of f → brought e m ≡ brought f m
+pub brought-by-top : (e f : Entry) (m : Ksm) → top-of (e .top) ≡ top-of (f .top) → brought e m ≡ brought f m
 unfolding brought
 brought-by-top e f m h =
     ap (λ (x : Top).
@@ -55,14 +57,14 @@ brought-by-top e f m h =
 brought-one : (e : Entry) (k : KeyRequest) → k .key < 2 ^ 64
     → _≡_ {A = DataKey}
     (record {
-      key = unseal (working (top-of e) (e .next)) (kd-for e k .key);
+      key = unseal (working (top-of (e .top)) (e .sending .next)) (kd-for e k .key);
       name = name-of (named (kd-for e k .idk1));
     })
     (outgoing-key k)
 brought-one e k small = λ j. record { key = keys j; name = name-of (names (wants-idk1 k) j) }
   where
-    keys : unseal (working (top-of e) (e .next)) (seal (working (top-of e) (e .next)) (k .key)) ≡ k .key
-    keys = unseal-seal (working (top-of e) (e .next)) (k .key) small
+    keys : unseal (working (top-of (e .top)) (e .sending .next)) (seal (working (top-of (e .top)) (e .sending .next)) (k .key)) ≡ k .key
+    keys = unseal-seal (working (top-of (e .top)) (e .sending .next)) (k .key) small
 
     names : (b : Bool) → named (asked b (bare (k .name .bytes)))
         ≡ cond b (bare (k .name .bytes)) []
@@ -75,7 +77,7 @@ unfolding brought outgoing-of if_then_else_ sent
 brought-sent us e q small = go (eqb (q .count) 2)
   where
     key : Kd → DataKey
-    key k = record { key = unseal (working (top-of e) (e .next)) (k .key); name = name-of (named (k .idk1)) }
+    key k = record { key = unseal (working (top-of (e .top)) (e .sending .next)) (k .key); name = name-of (named (k .idk1)) }
 
     go : (b : Bool)
         → elim (asked b (kd-for e (q .second))) [
@@ -128,9 +130,9 @@ module _ (a b name : Text) (top : Top) where
     pub entry : Entry
     pub lawful : legal entry ≡ true
     pub to-b : partner entry ≡ b
-    pub key : top-of entry ≡ top
-    pub named : entry .name ≡ name-of name
-    pub count : entry .next ≡ n
+    pub key : top-of (entry .top) ≡ top
+    pub named : entry .top .name ≡ name-of name
+    pub count : entry .sending .next ≡ n
     pub odd-keys : any not-odd (used request) ≡ false
     pub formed : malformed request ≡ false
     pub small : In-64-bits request
@@ -141,13 +143,14 @@ module _ (a b name : Text) (top : Top) where
   ends = record {
     Text = Text;
     Keys = KeySet;
-    Entry = Entry;
-    phase = λ e. e .phase;
-    next = λ e. e .next;
-    outgoing = λ e. e .outgoing;
-    expected = λ e. e .expected;
-    incoming = λ e. e .incoming;
-    holding = λ e. 1 < e .expected;
+    Sending = Sending;
+    phase = λ s. s .phase;
+    next = λ s. s .next;
+    outgoing = λ s. s .outgoing;
+    Receiving = Receiving;
+    expected = λ r. r .expected;
+    incoming = λ r. r .incoming;
+    holding = λ r. 1 < r .expected;
     carries = λ t. carried-by (read t);
     calls = λ t. called-by (carried-by (read t));
     closes = λ t k m. ⊥;

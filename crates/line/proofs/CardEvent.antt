@@ -8,7 +8,7 @@ use Rattle.csm.specs.Message.{Body, ksm, rsm}
 use Rattle.partner.specs.declared.Entry.{Entry}
 use Rattle.partner.specs.Entry.{top-of}
 use Rattle.partner.specs.Legal.{legal}
-use Rattle.partner.specs.Changes.{sending, receiving, accepted, issued, settled}
+use Rattle.partner.specs.Changes.{accepted, issued, settled}
 use Rattle.calls.specs.Outcome.{Turn}
 use Rattle.calls.specs.Receive.{brought}
 use Rattle.calls.specs.Claims.{Carries}
@@ -30,7 +30,7 @@ no-texts reply x e h = List·Memᴰ·not-nil (rw e at h)
 module _ {us : Text} {e : Entry} {H : Text → Type 0} where
   -- the partner, the key name and the top key stay
   pub event-identity : {x : Turn} {k : List ℕ} → Event us e H x k → x .entry .identity ≡ e .identity
-  unfolding accepted issued settled sending receiving
+  unfolding accepted issued settled
   event-identity (silent o r) = refl
   event-identity (speaks o b p r) = refl
   event-identity (takes o t m h i l u r) = refl
@@ -38,8 +38,8 @@ module _ {us : Text} {e : Entry} {H : Text → Type 0} where
   event-identity (fails o n l r) = refl
   event-identity (issues o q p f s l r) = refl
 
-  pub event-name : {x : Turn} {k : List ℕ} → Event us e H x k → x .entry .name ≡ e .name
-  unfolding accepted issued settled sending receiving
+  pub event-name : {x : Turn} {k : List ℕ} → Event us e H x k → x .entry .top .name ≡ e .top .name
+  unfolding accepted issued settled
   event-name (silent o r) = refl
   event-name (speaks o b p r) = refl
   event-name (takes o t m h i l u r) = refl
@@ -47,8 +47,8 @@ module _ {us : Text} {e : Entry} {H : Text → Type 0} where
   event-name (fails o n l r) = refl
   event-name (issues o q p f s l r) = refl
 
-  pub event-top : {x : Turn} {k : List ℕ} → Event us e H x k → top-of (x .entry) ≡ top-of e
-  unfolding accepted issued settled sending receiving top-of
+  pub event-top : {x : Turn} {k : List ℕ} → Event us e H x k → top-of (x .entry .top) ≡ top-of (e .top)
+  unfolding accepted issued settled top-of
   event-top (silent o r) = refl
   event-top (speaks o b p r) = refl
   event-top (takes o t m h i l u r) = refl

@@ -28,8 +28,8 @@ module _ (name : Text) (top : Top) where
   pub record Known (other : Text) (t : Table) : Type 0 where
     pub entry : Entry
     pub there : entry-of other t ≡ some entry
-    pub key : top-of entry ≡ top
-    pub named : entry .name ≡ name-of name
+    pub key : top-of (entry .top) ≡ top
+    pub named : entry .top .name ≡ name-of name
 
   pub record Good (own other : Text) (t : Table) : Type 0 where
     pub identity : bare (t .own) ≡ own
@@ -52,11 +52,11 @@ module _ (name : Text) (top : Top) where
 
   -- the entry that is found is the one that is known
   pub known-is : (other : Text) (t : Table) (e : Entry) → entry-of other t ≡ some e
-      → (entry-of other t ≡ none) ⊎ Known other t → (top-of e ≡ top) × (e .name ≡ name-of name)
+      → (entry-of other t ≡ none) ⊎ Known other t → (top-of (e .top) ≡ top) × (e .top .name ≡ name-of name)
   known-is other t e h (inl n) = absurd (let z : _≡_ {A = ℕ} 0 1 = cc in omega arith)
   known-is other t e h (inr k) =
       let p : k .entry ≡ e = cc (h, k .there) in
-      (ap top-of (sym p) ∙ k .key, ap (λ (x : Entry). x .name) (sym p) ∙ k .named)
+      (ap (λ (x : Entry). top-of (x .top)) (sym p) ∙ k .key, ap (λ (x : Entry). x .top .name) (sym p) ∙ k .named)
 
   pub good-run : (own other : Text) (l : List Text) (t : Table) (c : Call) → Good own other t
       → Allowed name top other l c (run t c .outcome .answer) → Good own other (run t c .table)
@@ -112,15 +112,15 @@ module _ (a b name : Text) (top : Top) where
   -- what any call does at A's end, and at B's
   pub makes : (l : List Text) (t : Table) (c : Call) → Good name top a b t
       → Allowed name top b l c (run t c .outcome .answer)
-      → CoreEnds.Made E (see name top b t) (see name top b (run t c .table)) l (texts (run t c .outcome .reply))
+      → CoreEnds.Made E (see name top b t .sending) (see name top b (run t c .table) .sending) l (texts (run t c .outcome .reply))
   unfolding seen
   makes l t c g may = go (run-local name top a b l t c (g .identity) may)
     where
-      still : CoreEnds.Lasts E (see name top b t) (see name top b t)
+      still : CoreEnds.Lasts E (see name top b t .sending) (see name top b t .sending)
       still = record { phase = refl; next = refl; outgoing = refl }
 
       go : {k : List ℕ} → Local name top a b l t (run t c) k
-          → CoreEnds.Made E (see name top b t) (see name top b (run t c .table)) l (texts (run t c .outcome .reply))
+          → CoreEnds.Made E (see name top b t .sending) (see name top b (run t c .table) .sending) l (texts (run t c .outcome .reply))
       go (elsewhere same kept away mute) =
           rw kept
           (CoreEnds.Made.quiet still (λ x h.
@@ -137,13 +137,13 @@ module _ (a b name : Text) (top : Top) where
 
   pub takes : (l : List Text) (t : Table) (c : Call) → Good name top b a t
       → Allowed name top a l c (run t c .outcome .answer)
-      → CoreEnds.Took E (see name top a t) (see name top a (run t c .table)) l (texts (run t c .outcome .reply))
+      → CoreEnds.Took E (see name top a t .receiving) (see name top a (run t c .table) .receiving) l (texts (run t c .outcome .reply))
       (counted a c (run t c .outcome .answer))
   unfolding seen
   takes l t c g may = go (run-local name top b a l t c (g .identity) may)
     where
       go : {k : List ℕ} → Local name top b a l t (run t c) k
-          → CoreEnds.Took E (see name top a t) (see name top a (run t c .table)) l (texts (run t c .outcome .reply)) k
+          → CoreEnds.Took E (see name top a t .receiving) (see name top a (run t c .table) .receiving) l (texts (run t c .outcome .reply)) k
       go (elsewhere same kept away mute) =
           rw kept
           (CoreEnds.Took.quiet (record { expected = refl; incoming = refl; holding = λ h. h })

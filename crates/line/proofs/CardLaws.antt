@@ -16,7 +16,7 @@ use Rattle.partner.specs.declared.KeySet.{KeySet}
 use Rattle.partner.specs.declared.Entry.{Entry}
 use Rattle.partner.specs.Entry.{name-of, keys-in, top-of}
 use Rattle.partner.specs.Legal.{legal}
-use Rattle.partner.specs.Changes.{sending, receiving, accepted, issued, settled}
+use Rattle.partner.specs.Changes.{accepted, issued, settled}
 use Rattle.calls.specs.Outcome.{Turn}
 use Rattle.calls.specs.Receive.{rsm-body, rsm-text, brought}
 use Rattle.calls.specs.Build.{outgoing-of}
@@ -52,9 +52,9 @@ module _ (a b name : Text) (top : Top) (l : List Text) where
       → CoreEnds.Idle (ends a b name top) t
   idle-text t h = record { key = h; close = λ k m c. c }
 
-  module _ (e : Entry) (to-b : partner e ≡ b) (key : top-of e ≡ top) (called : e .name ≡ name-of name)
+  module _ (e : Entry) (to-b : partner e ≡ b) (key : top-of (e .top) ≡ top) (called : e .top .name ≡ name-of name)
       (lawful : legal e ≡ true) (named : is-name a ≡ true) where
-    same-top : top-of (entry-for name top a) ≡ top-of e
+    same-top : top-of (entry-for name top a .top) ≡ top-of (e .top)
     same-top = top-loaded a name top ∙ sym key
 
     -- what is written to B and is no key message
@@ -64,8 +64,8 @@ module _ (a b name : Text) (top : Top) (l : List Text) where
         idle-text t (rw (texts-in reply t h, is, to-b, carried-at a b name top body) quiet)
 
     pub made-of : (x : Turn) (k : List ℕ) → Event a e (λ u. u ∈ l) x k
-        → CoreEnds.Made (ends a b name top) e (x .entry) l (texts (x .outcome .reply))
-    unfolding carried-in answer-in called-by accepted issued settled sending receiving sent
+        → CoreEnds.Made (ends a b name top) (e .sending) (x .entry .sending) l (texts (x .outcome .reply))
+    unfolding carried-in answer-in called-by accepted issued settled sent
     made-of x k (silent o r) =
         CoreEnds.Made.quiet (record { phase = refl; next = refl; outgoing = refl })
         (λ t h. absurd (no-texts (o .reply) t r h))
@@ -76,8 +76,8 @@ module _ (a b name : Text) (top : Top) (l : List Text) where
         CoreEnds.Made.quiet (record { phase = refl; next = refl; outgoing = refl })
         (let w = rsm-written a e named lawful (brought e m) in other-text (rsm (w .0)) refl (o .reply) (rw r (w .1)))
     made-of x k (settles o u m h i waits same r) =
-        let mac-is : m .mac ≡ mac-under a b name top (e .outgoing) =
-        same ∙ ap (λ (w : Text). mac (mac-key (keys-in (e .outgoing))) w)
+        let mac-is : m .mac ≡ mac-under a b name top (e .sending .outgoing) =
+        same ∙ ap (λ (w : Text). mac (mac-key (keys-in (e .sending .outgoing))) w)
         (covered-rsm a b u m (subst (λ (w : Text). Carries w a (rsm m) u) to-b i)) in
         CoreEnds.Made.confirmed u (m .mac) h (rw (i, to-b, answer-at a b name top (rsm m)))
         (λ t n c. rw (c, mac-is)) waits refl refl refl (λ t g. absurd (no-texts (o .reply) t r g))
@@ -104,11 +104,11 @@ module _ (a b name : Text) (top : Top) (l : List Text) where
           keys = refl;
           text = r;
         })
-        (λ c d f. f) refl (risen-below (e .next) low ∙ add-one (e .next))
+        (λ c d f. f) refl (risen-below (e .sending .next) low ∙ add-one (e .sending .next))
 
   -- ---- B's end
 
-  module _ (e : Entry) (to-a : partner e ≡ a) (key : top-of e ≡ top) (lawful : legal e ≡ true)
+  module _ (e : Entry) (to-a : partner e ≡ a) (key : top-of (e .top) ≡ top) (lawful : legal e ≡ true)
       (named : is-name b ≡ true) where
     no-rsm : (body : Body) → answer-in a b name top body ≡ no-answer → (reply : Text)
         → Carries b (partner e) body reply → (t : Text) → t ∈ texts reply
@@ -124,8 +124,8 @@ module _ (a b name : Text) (top : Top) (l : List Text) where
         ∙ ap (λ (x : Text). under (covered-part (record { rcv = x; org = b; body = rsm-body 0 }))) to-a
 
     pub took-of : (x : Turn) (k : List ℕ) → Event b e (λ u. u ∈ l) x k
-        → CoreEnds.Took (ends a b name top) e (x .entry) l (texts (x .outcome .reply)) k
-    unfolding carried-in answer-in called-by accepted issued settled sending receiving
+        → CoreEnds.Took (ends a b name top) (e .receiving) (x .entry .receiving) l (texts (x .outcome .reply)) k
+    unfolding carried-in answer-in called-by accepted issued settled
     took-of x k (silent o r) =
         CoreEnds.Took.quiet (record { expected = refl; incoming = refl; holding = λ h. h })
         (λ t h. absurd (no-texts (o .reply) t r h)) refl

@@ -18,7 +18,7 @@ use Rattle.csm.specs.Covered.{covered}
 use Rattle.partner.specs.declared.Entry.{Entry}
 use Rattle.partner.specs.Entry.{limit, waiting, broken, no-keys, keys-in}
 use Rattle.partner.specs.Legal.{legal}
-use Rattle.partner.specs.Changes.{sending, accepted, issued, settled, given-up, failed}
+use Rattle.partner.specs.Changes.{with-receiving, with-sending, accepted, issued, settled, given-up, failed}
 use Rattle.calls.specs.declared.Request.{Request}
 use Rattle.calls.specs.Words.{if_then_else_, any}
 use Rattle.calls.specs.Outcome.{I, K, M, O, Outcome, Told, failure, nothing, Turn, refused, done}
@@ -55,20 +55,20 @@ pub data Event (us : Text) (e : Entry) (Heard : Text → Type 0) : Turn → List
   speaks : (o : Outcome) (b : Body) → Plain b → Carries us (partner e) b (o .reply)
       → Event us e Heard (record { outcome = o; entry = e }) []
   -- a key message is accepted and answered
-  takes : (o : Outcome) (t : Text) (m : Ksm) → Heard t → Carries (partner e) us (ksm m) t → e .expected ≤ m .ctp
+  takes : (o : Outcome) (t : Text) (m : Ksm) → Heard t → Carries (partner e) us (ksm m) t → e .receiving .expected ≤ m .ctp
       → m .ctp < limit → o .reply ≡ rsm-text us e (brought e m)
-      → Event us e Heard (record { outcome = o; entry = accepted e (m .ctp) (brought e m) }) (m .ctp ∷ [])
+      → Event us e Heard (record { outcome = o; entry = with-receiving e (accepted (m .ctp) (brought e m)) }) (m .ctp ∷ [])
   -- an answer confirms
-  settles : (o : Outcome) (t : Text) (m : Rsm) → Heard t → Carries (partner e) us (rsm m) t → e .phase ≡ waiting
-      → m .mac ≡ mac (mac-key (keys-in (e .outgoing))) (covered t) → o .reply ≡ []
-      → Event us e Heard (record { outcome = o; entry = settled e }) []
+  settles : (o : Outcome) (t : Text) (m : Rsm) → Heard t → Carries (partner e) us (rsm m) t → e .sending .phase ≡ waiting
+      → m .mac ≡ mac (mac-key (keys-in (e .sending .outgoing))) (covered t) → o .reply ≡ []
+      → Event us e Heard (record { outcome = o; entry = with-sending e (settled (e .sending)) }) []
   -- an error came, or the keys are given up
-  fails : (o : Outcome) (n : ℕ) → e .next ≤ n → o .reply ≡ []
-      → Event us e Heard (record { outcome = o; entry = sending e n broken no-keys }) []
+  fails : (o : Outcome) (n : ℕ) → e .sending .next ≤ n → o .reply ≡ []
+      → Event us e Heard (record { outcome = o; entry = with-sending e (record { next = n; phase = broken; outgoing = no-keys }) }) []
   -- a key message is built
   issues : (o : Outcome) (q : Request) → any not-odd (used q) ≡ false → malformed q ≡ false → In-64-bits q
-      → e .next < limit → o .reply ≡ ksm-text us e q
-      → Event us e Heard (record { outcome = o; entry = issued e (outgoing-of q) }) []
+      → e .sending .next < limit → o .reply ≡ ksm-text us e q
+      → Event us e Heard (record { outcome = o; entry = with-sending e (issued (e .sending) (outgoing-of q)) }) []
 
 -- ---- the steps are those events
 
@@ -89,12 +89,12 @@ module _ (us : Text) (e : Entry) (Heard : Text → Type 0) (named : is-name us �
         by-case (λ (x : Turn). Event us e Heard x (counts (ksm m) x)) _ _ _
         (λ q. erring (ksm m) _ (counts-for e m)
         (letters-legal (bad-format (brought e m) m) (bad-mac (brought e m) text (m .mac))
-        (bad-count (e .expected) (m .ctp)) (e .expected) (m .ctp) (rules e lawful .expected-right)
+        (bad-count (e .receiving .expected) (m .ctp)) (e .receiving .expected) (m .ctp) (rules e lawful .expected-right)
         (ksm-parts m l .count) q))
         (λ q.
         let p = no-P (bad-format (brought e m) m) (bad-mac (brought e m) text (m .mac)) _ (not-false _ q) in
         let k = or-split _ _ p in
-        takes _ text m heard is (ltb-false (m .ctp) (e .expected) (k .0))
+        takes _ text m heard is (ltb-false (m .ctp) (e .receiving .expected) (k .0))
         (short-of-last (m .ctp) (ksm-parts m l .count) (k .1)) refl)
 
     ksm-event : (m : Ksm) → Carries (partner e) us (ksm m) text → legal-body (ksm m) ≡ true
@@ -111,28 +111,28 @@ module _ (us : Text) (e : Entry) (Heard : Text → Type 0) (named : is-name us �
         → Event us e Heard (receive-rsm us e text m) (counts (rsm m) (receive-rsm us e text m))
     unfolding receive-rsm is-waiting bad-mac count-in if_then_else_
     rsm-event m is =
-        by-case (λ (x : Turn). Event us e Heard x (counts (rsm m) x)) (not (is-waiting e)) (refused e 5) _
+        by-case (λ (x : Turn). Event us e Heard x (counts (rsm m) x)) (not (is-waiting (e .sending))) (refused e 5) _
         (λ q. silent _ refl)
         (λ q.
-        by-case (λ (x : Turn). Event us e Heard x (counts (rsm m) x)) (bad-mac (e .outgoing) text (m .mac))
+        by-case (λ (x : Turn). Event us e Heard x (counts (rsm m) x)) (bad-mac (e .sending .outgoing) text (m .mac))
         (error us e M none) _ (λ p. erring (rsm m) M none (esm-legal M refl refl))
-        (λ p. settles _ text m heard is (eqb-true (e .phase) waiting (not-false _ q))
+        (λ p. settles _ text m heard is (eqb-true (e .sending .phase) waiting (not-false _ q))
         (sym (eqb-true _ (m .mac) (not-false _ p))) refl))
 
     -- by its CTP, if it has one
     after-event : (ctp ctr : Option ℕ) (erf : ℕ) (edc : Option ℕ) (o : Told)
-        → Event us e Heard (done (after-esm e (record { ctp = ctp; ctr = ctr; erf = erf; edc = edc })) [] o) []
-    unfolding given-up failed sending
+        → Event us e Heard (done (with-sending e (after-esm (e .sending) (record { ctp = ctp; ctr = ctr; erf = erf; edc = edc }))) [] o) []
+    unfolding given-up failed
     after-event none ctr erf edc o =
-        fails _ (after-esm e (record { ctp = none; ctr = ctr; erf = erf; edc = edc }) .next) (omega arith) refl
+        fails _ (after-esm (e .sending) (record { ctp = none; ctr = ctr; erf = erf; edc = edc }) .next) (omega arith) refl
     after-event (some x) ctr erf edc o =
-        fails _ (after-esm e (record { ctp = some x; ctr = ctr; erf = erf; edc = edc }) .next) (omega arith) refl
+        fails _ (after-esm (e .sending) (record { ctp = some x; ctr = ctr; erf = erf; edc = edc }) .next) (omega arith) refl
 
     esm-event : (m : Esm) → Event us e Heard (receive-esm e m) (counts (esm m) (receive-esm e m))
     unfolding receive-esm count-in if_then_else_
     esm-event m =
-        by-case (λ (x : Turn). Event us e Heard x (counts (esm m) x)) (not (is-waiting e)) (refused e 5)
-        (done (after-esm e m) [] (failure (m .erf))) (λ q. silent _ refl)
+        by-case (λ (x : Turn). Event us e Heard x (counts (esm m) x)) (not (is-waiting (e .sending))) (refused e 5)
+        (done (with-sending e (after-esm (e .sending) m)) [] (failure (m .erf))) (λ q. silent _ refl)
         (λ q. after-event (m .ctp) (m .ctr) (m .erf) (m .edc) (failure (m .erf)))
 
     pub receive-event : (body : Body) → Carries (partner e) us body text → legal-body body ≡ true
@@ -151,13 +151,13 @@ module _ (us : Text) (e : Entry) (Heard : Text → Type 0) (named : is-name us �
       by-case (λ (x : Turn). Event us e Heard x []) _ _ _ (λ i. silent _ refl) (λ i.
       by-case (λ (x : Turn). Event us e Heard x []) _ _ _ (λ j. silent _ refl) (λ j.
       by-case (λ (x : Turn). Event us e Heard x []) _ _ _ (λ k. silent _ refl) (λ k.
-      issues _ q j k small (short-of-last (e .next) (rules e lawful .next-right) i) refl))))
+      issues _ q j k small (short-of-last (e .sending .next) (rules e lawful .next-right) i) refl))))
 
   pub give-up-event : Event us e Heard (give-up e) []
   unfolding give-up given-up
   give-up-event =
       by-case (λ (x : Turn). Event us e Heard x []) _ _ _ (λ h. silent _ refl)
-      (λ h. fails _ (e .next) (omega arith) refl)
+      (λ h. fails _ (e .sending .next) (omega arith) refl)
 
   -- the RSI that is built is of a legal SVR
   pub build-rsi-event : (contents : Text) → Event us e Heard (build-rsi us e contents) []

@@ -9,10 +9,10 @@ use Rattle.line.proofs.CoreEnds.{key-message, no-key-message, Ends, Pai
 use Rattle.line.proofs.CoreSent
 
 module _ (E : Ends) where
-  open Ends E using (Text, Keys, Entry, phase, next, outgoing, expected, incoming, holding)
+  open Ends E using (Text, Keys, Sending, Receiving, phase, next, outgoing, expected, incoming, holding)
   open Ends E using (carries, calls, closes, answers, Sound)
 
-  pub beginning : (s : Pair Entry Text) → CoreEnds.Begins E s → CoreSent.Along E s
+  pub beginning : (s : Pair Sending Receiving Text) → CoreEnds.Begins E s → CoreSent.Along E s
   beginning s f = record {
     below = λ t n k h e. never t n k h e;
     once = λ t u n j k h g e e′. never t n j h e;
@@ -34,7 +34,7 @@ module _ (E : Ends) where
           let p : carries t ≡ no-key-message = f .none-sent t h .key in
           let z : _≡_ {A = ℕ} 0 1 = cc in absurd (omega arith)
 
-  pub conclusion : (s : Pair Entry Text) → CoreSent.Along E s → CoreEnds.Apart E (s .from-a) → phase (s .a) ≡ 2
+  pub conclusion : (s : Pair Sending Receiving Text) → CoreSent.Along E s → CoreEnds.Apart E (s .from-a) → phase (s .a) ≡ 2
       → CoreEnds.Meets E s
   conclusion s i d ph = record {
     message = p .text;

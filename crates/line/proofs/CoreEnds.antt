@@ -1,5 +1,5 @@
--- What the theorem needs to know of the two ends, whatever the cards are: what a text is on its way, what an entry
--- holds, and what a call may do at either end. It is wide enough for levels, closings and answers that are given again.
+-- What the theorem needs to know of the two ends, whatever the cards are: what a text is on its way, what A's sending
+-- unit and B's receiving unit hold, and what a call may do at either end. It is wide enough for levels, closings and answers that are given again.
 use mathlib.Core.Path.{_≡_}
 use mathlib.Core.List.{List, [], _∷_}
 use mathlib.Core.Logic.{_≢_}
@@ -19,14 +19,15 @@ pub data Answer : Type 0 where
 pub record Ends : Type 1 where
   pub Text : Type 0
   pub Keys : Type 0
-  pub Entry : Type 0
-  pub phase : Entry → ℕ
-  pub next : Entry → ℕ
-  pub outgoing : Entry → Keys
-  pub expected : Entry → ℕ
-  pub incoming : Entry → Keys
+  pub Sending : Type 0
+  pub phase : Sending → ℕ
+  pub next : Sending → ℕ
+  pub outgoing : Sending → Keys
+  pub Receiving : Type 0
+  pub expected : Receiving → ℕ
+  pub incoming : Receiving → Keys
   -- incoming keys are held
-  pub holding : Entry → Type 0
+  pub holding : Receiving → Type 0
   -- of a text of A's for B: the key message of this level that it is
   pub carries : Text → Carried Keys
   -- of any key message of A's for B, of any level: the MAC of the answer that it calls for
@@ -38,16 +39,16 @@ pub record Ends : Type 1 where
   -- what is known besides of a key message that was built
   pub Sound : Text → ℕ → Keys → Type 0
 
--- the two entries, A's for B and B's for A, and what both have written so far, the newest first
-pub record Pair (E T : Type 0) : Type 0 where
-  pub a : E
-  pub b : E
+-- the two units, A's of sending to B and B's of receiving from A, and what both have written so far, the newest first
+pub record Pair (S R T : Type 0) : Type 0 where
+  pub a : S
+  pub b : R
   pub from-a : List T
   pub from-b : List T
   pub accepted : List ℕ
 
 module _ (E : Ends) where
-  open Ends E using (Text, Keys, Entry, phase, next, outgoing, expected, incoming, holding)
+  open Ends E using (Text, Keys, Sending, Receiving, phase, next, outgoing, expected, incoming, holding)
   open Ends E using (carries, calls, closes, answers, Sound)
 
   -- the premises on MACs
@@ -68,13 +69,13 @@ module _ (E : Ends) where
     pub key : carries t ≡ no-key-message
     pub close : (k : Keys) (m : ℕ) → closes t k m → ⊥
 
-  -- the sending side stays
-  pub record Lasts (x y : Entry) : Type 0 where
+  -- the sending unit stays
+  pub record Lasts (x y : Sending) : Type 0 where
     pub phase : phase y ≡ phase x
     pub next : next y ≡ next x
     pub outgoing : outgoing y ≡ outgoing x
 
-  pub data Made (x y : Entry) (heard said : List Text) : Type 0 where
+  pub data Made (x y : Sending) (heard said : List Text) : Type 0 where
     -- nothing at this level
     quiet : Lasts x y → ((t : Text) → t ∈ said → Idle t) → Made x y heard said
     -- a key message with the next send count and the outgoing keys
@@ -92,13 +93,13 @@ module _ (E : Ends) where
 
   -- ---- what a call may do at B's end
 
-  -- the receiving side stays
-  pub record Keeps (x y : Entry) : Type 0 where
+  -- the receiving unit stays
+  pub record Keeps (x y : Receiving) : Type 0 where
     pub expected : expected y ≡ expected x
     pub incoming : incoming y ≡ incoming x
     pub holding : holding y → holding x
 
-  pub data Took (x y : Entry) (heard said : List Text) (taken : List ℕ) : Type 0 where
+  pub data Took (x y : Receiving) (heard said : List Text) (taken : List ℕ) : Type 0 where
     quiet : Keeps x y → ((t : Text) → t ∈ said → answers t ≡ no-answer) → taken ≡ [] → Took x y heard said taken
     -- a key message of A's: its keys and names are held, its count is passed, and the answer is the one called for
     installed : (t : Text) (n m : ℕ) → t ∈ heard → carries t ≡ key-message n (incoming y) → calls t ≡ answer m
@@ -114,7 +115,7 @@ module _ (E : Ends) where
 
   -- ---- how it begins: no key message of this level yet, and every answer so far answers one of another level
 
-  pub record Begins (s : Pair Entry Text) : Type 0 where
+  pub record Begins (s : Pair Sending Receiving Text) : Type 0 where
     pub idle : phase (s .a) ≡ 0
     pub level : expected (s .b) ≤ next (s .a)
     pub none-sent : (t : Text) → t ∈ s .from-a → Idle t
@@ -126,7 +127,7 @@ module _ (E : Ends) where
   -- ---- where it leads: the key message that carried A's keys and names under this count; B accepted that count and
   -- holds those
 
-  pub record Meets (s : Pair Entry Text) : Type 0 where
+  pub record Meets (s : Pair Sending Receiving Text) : Type 0 where
     pub message : Text
     pub number : ℕ
     pub sent : message ∈ s .from-a

@@ -9,25 +9,25 @@ use Rattle.line.proofs.CoreEnds
 use Rattle.line.proofs.CoreEnds.{Ends, Pair}
 
 module _ (E : Ends) where
-  open Ends E using (Text, Entry, expected)
+  open Ends E using (Text, Sending, Receiving, expected)
 
   -- the counts that were accepted rise, and are below the expected one
-  pub record Rises (y : Entry) (accepted : List ℕ) : Type 0 where
+  pub record Rises (y : Receiving) (accepted : List ℕ) : Type 0 where
     pub old : (m : ℕ) → m ∈ accepted → m < expected y
     pub rising : Rising accepted
 
-  pub beginning : (s : Pair Entry Text) → CoreEnds.Begins E s → Rises (s .b) (s .accepted)
+  pub beginning : (s : Pair Sending Receiving Text) → CoreEnds.Begins E s → Rises (s .b) (s .accepted)
   beginning s f = record {
     old = λ m h. absurd (List·Memᴰ·not-nil (rw (f .none-taken) at h));
     rising = rw (f .none-taken) empty;
   }
 
   -- nothing is accepted
-  stays : (x y : Entry) (accepted : List ℕ) → expected y ≡ expected x → Rises x accepted → Rises y accepted
+  stays : (x y : Receiving) (accepted : List ℕ) → expected y ≡ expected x → Rises x accepted → Rises y accepted
   stays x y accepted same i = record { old = λ m h. omega (arith, i .old m h); rising = i .rising }
 
   -- a count is accepted
-  grows : (x y : Entry) (n : ℕ) (accepted : List ℕ) → expected x ≤ n → expected y ≡ suc n → Rises x accepted
+  grows : (x y : Receiving) (n : ℕ) (accepted : List ℕ) → expected x ≤ n → expected y ≡ suc n → Rises x accepted
       → Rises y (n ∷ accepted)
   grows x y n accepted late ex i = record {
     old = λ m h.
@@ -37,7 +37,7 @@ module _ (E : Ends) where
   }
 
   -- every call at B's end
-  pub keep : (x y : Entry) (heard said : List Text) (taken accepted : List ℕ) → Rises x accepted
+  pub keep : (x y : Receiving) (heard said : List Text) (taken accepted : List ℕ) → Rises x accepted
       → CoreEnds.Took E x y heard said taken → Rises y (taken ++ accepted)
   keep x y heard said taken accepted i (CoreEnds.Took.quiet k mute nil) = rw nil (stays x y accepted (k .expected) i)
   keep x y heard said taken accepted i (CoreEnds.Took.installed t n m there is cm late ex says one) =

@@ -10,11 +10,11 @@ use Rattle.line.proofs.CoreEnds
 use Rattle.line.proofs.CoreEnds.{key-message, no-key-message, answer, Ends, Pair}
 
 module _ (E : Ends) where
-  open Ends E using (Text, Keys, Entry, phase, next, outgoing, expected, incoming, holding)
+  open Ends E using (Text, Keys, Sending, Receiving, phase, next, outgoing, expected, incoming, holding)
   open Ends E using (carries, calls, closes, answers, Sound)
 
   -- the newest key message stands for the outgoing keys
-  pub record Standing (x : Entry) (l : List Text) : Type 0 where
+  pub record Standing (x : Sending) (l : List Text) : Type 0 where
     pub text : Text
     pub number : ℕ
     pub there : text ∈ l
@@ -40,7 +40,7 @@ module _ (E : Ends) where
     pub old : (n : ℕ) (k : Keys) → carries text ≡ key-message n k → n < e
 
   -- the key message that the incoming keys came in
-  pub record Source (l : List Text) (y : Entry) : Type 0 where
+  pub record Source (l : List Text) (y : Receiving) : Type 0 where
     pub text : Text
     pub number : ℕ
     pub there : text ∈ l
@@ -48,7 +48,7 @@ module _ (E : Ends) where
     pub newest : suc number ≡ expected y
 
   -- the key message that a closing closes; it no longer stands
-  pub record Ended (x : Entry) (l : List Text) (d : Text) : Type 0 where
+  pub record Ended (x : Sending) (l : List Text) (d : Text) : Type 0 where
     pub text : Text
     pub number : ℕ
     pub keys : Keys
@@ -58,7 +58,7 @@ module _ (E : Ends) where
     pub by : closes d keys mac
     pub over : 1 ≤ phase x → phase x ≤ 2 → suc number < next x
 
-  pub record Along (s : Pair Entry Text) : Type 0 where
+  pub record Along (s : Pair Sending Receiving Text) : Type 0 where
     pub below : (t : Text) (n : ℕ) (k : Keys) → t ∈ s .from-a → carries t ≡ key-message n k → n < next (s .a)
     pub once : (t u : Text) (n : ℕ) (j k : Keys) → t ∈ s .from-a → u ∈ s .from-a → carries t ≡ key-message n j
         → carries u ≡ key-message n k → j ≡ k
@@ -75,7 +75,7 @@ module _ (E : Ends) where
         → n ∈ s .accepted
 
   -- after a call at A's end
-  abbrev pub next-a : Pair Entry Text → Entry → List Text → Pair Entry Text
+  abbrev pub next-a : Pair Sending Receiving Text → Sending → List Text → Pair Sending Receiving Text
   next-a s y said =
       record { a = y; b = s .b; from-a = said ++ s .from-a; from-b = s .from-b; accepted = s .accepted }
 
@@ -103,7 +103,7 @@ module _ (E : Ends) where
   up-held said l k i h =
       ⊎-elim (λ (p : k ≡ i). inl p) (λ (p : (m : ℕ) × Closing l k m). inr (p .0, up-closing said l k (p .0) (p .1))) h
 
-  up-source : (said l : List Text) (y : Entry) → Source l y → Source (said ++ l) y
+  up-source : (said l : List Text) (y : Receiving) → Source l y → Source (said ++ l) y
   up-source said l y p = record {
     text = p .text;
     number = p .number;
@@ -123,7 +123,7 @@ module _ (E : Ends) where
 
   -- ---- a call at A's end that builds no key message
 
-  pass-a : (s : Pair Entry Text) (y : Entry) (said : List Text) → Along s
+  pass-a : (s : Pair Sending Receiving Text) (y : Sending) (said : List Text) → Along s
       → ((t : Text) → t ∈ said → carries t ≡ no-key-message) → next (s .a) ≤ next y
       → (1 ≤ phase y → phase y ≤ 2
       → (1 ≤ phase (s .a)) × (phase (s .a) ≤ 2) × (next y ≡ next (s .a)) × (outgoing y ≡ outgoing (s .a)))
@@ -177,7 +177,7 @@ module _ (E : Ends) where
 
   -- ---- a key message is built
 
-  built-a : (s : Pair Entry Text) (y : Entry) (t₀ : Text) → Along s
+  built-a : (s : Pair Sending Receiving Text) (y : Sending) (t₀ : Text) → Along s
       → carries t₀ ≡ key-message (next (s .a)) (outgoing y)
       → Sound t₀ (next (s .a)) (outgoing y) → ((k : Keys) (m : ℕ) → closes t₀ k m → ⊥) → phase y ≡ 1
       → next y ≡ suc (next (s .a)) → Along (next-a s y (t₀ ∷ []))
@@ -240,7 +240,7 @@ module _ (E : Ends) where
 
   -- ---- the answer that confirms: B took the standing key message
 
-  meets : (s : Pair Entry Text) → Along s → CoreEnds.Apart E (s .from-a) → (r : Text) (m : ℕ) → r ∈ s .from-b
+  meets : (s : Pair Sending Receiving Text) → Along s → CoreEnds.Apart E (s .from-a) → (r : Text) (m : ℕ) → r ∈ s .from-b
       → answers r ≡ answer m → ((t : Text) (n : ℕ) → carries t ≡ key-message n (outgoing (s .a)) → calls t ≡ answer m)
       → phase (s .a) ≡ 1 → expected (s .b) ≡ next (s .a)
   meets s i d r m h e fits ph =
@@ -259,7 +259,7 @@ module _ (E : Ends) where
 
   -- ---- every call at A's end
 
-  pub keep-a : (s : Pair Entry Text) (y : Entry) (said : List Text) → Along s → CoreEnds.Apart E (s .from-a)
+  pub keep-a : (s : Pair Sending Receiving Text) (y : Sending) (said : List Text) → Along s → CoreEnds.Apart E (s .from-a)
       → CoreEnds.Made E (s .a) y (s .from-b) said → Along (next-a s y said)
   keep-a s y said i d (CoreEnds.Made.quiet z mute) =
       pass-a s y said i (λ t h. mute t h .key) (omega (arith, z .next))

@@ -10,16 +10,16 @@ use Rattle.line.proofs.CoreEnds.{key-message, answer, no-answer, Ends, 
 use Rattle.line.proofs.CoreSent
 
 module _ (E : Ends) where
-  open Ends E using (Text, Keys, Entry, phase, next, outgoing, expected, incoming, holding)
+  open Ends E using (Text, Keys, Sending, Receiving, phase, next, outgoing, expected, incoming, holding)
   open Ends E using (carries, calls, closes, answers, Sound)
 
   -- after a call at B's end
-  abbrev pub next-b : Pair Entry Text → Entry → List Text → List ℕ → Pair Entry Text
+  abbrev pub next-b : Pair Sending Receiving Text → Receiving → List Text → List ℕ → Pair Sending Receiving Text
   next-b s y said taken =
       record { a = s .a; b = y; from-a = s .from-a; from-b = said ++ s .from-b; accepted = taken ++ s .accepted }
 
   -- nothing is installed
-  pass-b : (s : Pair Entry Text) (y : Entry) (said : List Text) → CoreSent.Along E s → expected y ≡ expected (s .b)
+  pass-b : (s : Pair Sending Receiving Text) (y : Receiving) (said : List Text) → CoreSent.Along E s → expected y ≡ expected (s .b)
       → ((t : Text) (n : ℕ) (k : Keys) → t ∈ s .from-a → carries t ≡ key-message n k → suc n ≡ expected (s .b)
       → (k ≡ incoming y) ⊎ ((m : ℕ) × CoreSent.Closing E (s .from-a) k m))
       → (holding y → CoreSent.Source E (s .from-a) y)
@@ -50,7 +50,7 @@ module _ (E : Ends) where
       }
 
   -- the receiving side stays
-  keeps-b : (s : Pair Entry Text) (y : Entry) (said : List Text) → CoreSent.Along E s → CoreEnds.Keeps E (s .b) y
+  keeps-b : (s : Pair Sending Receiving Text) (y : Receiving) (said : List Text) → CoreSent.Along E s → CoreEnds.Keeps E (s .b) y
       → ((r : Text) (m : ℕ) → r ∈ said → answers r ≡ answer m → CoreSent.Root E (s .from-a) (expected (s .b)) m)
       → CoreSent.Along E (next-b s y said [])
   keeps-b s y said i k new =
@@ -70,7 +70,7 @@ module _ (E : Ends) where
       }
 
   -- a key message is taken
-  installed-b : (s : Pair Entry Text) (y : Entry) (said : List Text) → CoreSent.Along E s → (t : Text) (n m : ℕ)
+  installed-b : (s : Pair Sending Receiving Text) (y : Receiving) (said : List Text) → CoreSent.Along E s → (t : Text) (n m : ℕ)
       → t ∈ s .from-a → carries t ≡ key-message n (incoming y) → calls t ≡ answer m → expected (s .b) ≤ n
       → expected y ≡ suc n → ((r : Text) → r ∈ said → answers r ≡ answer m)
       → CoreSent.Along E (next-b s y said (n ∷ []))
@@ -101,7 +101,7 @@ module _ (E : Ends) where
   }
 
   -- every call at B's end
-  pub keep-b : (s : Pair Entry Text) (y : Entry) (said : List Text) (taken : List ℕ) → CoreSent.Along E s
+  pub keep-b : (s : Pair Sending Receiving Text) (y : Receiving) (said : List Text) (taken : List ℕ) → CoreSent.Along E s
       → CoreEnds.Took E (s .b) y (s .from-a) said taken → CoreSent.Along E (next-b s y said taken)
   keep-b s y said taken i (CoreEnds.Took.quiet k mute nil) =
       rw nil

@@ -12,7 +12,7 @@ use Rattle.partner.specs.declared.KeySet.{KeySet}
 use Rattle.partner.specs.declared.Entry.{Entry}
 use Rattle.partner.specs.Entry.{waiting, confirmed, broken, filled, name-of, risen}
 use Rattle.partner.specs.Entry.{no-keys, two-keys}
-use Rattle.partner.specs.Changes.{sending, receiving as receiving-side, accepted, issued, settled, given-up}
+use Rattle.partner.specs.Changes.{with-sending, with-receiving, accepted, issued, settled, given-up}
 use Rattle.partner.specs.Table.{Table, is-empty, empties, slots-legal, legal}
 use Rattle.partner.proofs.Examples as entries
 use Rattle.calls.specs.declared.KeyRequest.{KeyRequest}
@@ -31,7 +31,7 @@ use Rattle.line.specs.Worked.{first-ksm, second-ksm}
 -- what is opened for a call to be computed
 unfoldable pub computes : Unit {0}
 unfolding
-    worked.computes entries.computes unseal read covered risen sending receiving-side accepted issued settled given-up
+    worked.computes entries.computes unseal read covered risen accepted issued settled given-up
     is-empty empties slots-legal legal any some-has
     by-class.foreign by-class.uneven by-class.brought by-class.bad-format by-class.bad-mac
     by-class.bad-count by-class.faults by-class.judged by-class.receive-ksm by-class.is-waiting by-class.receive-rsm
@@ -74,11 +74,20 @@ started own = record { own = filled own; slots = empties 64 }
 abbrev pub holds : Text → Entry → Table
 holds own e = record { own = filled own; slots = e ∷ empties 63 }
 
+-- MILL's entry for HARBOR and HARBOR's for MILL, by the unit that changes
+abbrev pub mill-entry : ℕ → ℕ → KeySet → Entry
+mill-entry next phase outgoing =
+    with-sending (entry-for key-name pair HARBOR) (record { next = next; phase = phase; outgoing = outgoing })
+
+abbrev pub harbor-entry : ℕ → KeySet → Entry
+harbor-entry expected incoming =
+    with-receiving (entry-for key-name pair MILL) (record { expected = expected; incoming = incoming })
+
 abbrev pub mill : ℕ → ℕ → KeySet → Table
-mill next phase outgoing = holds MILL (sending (entry-for key-name pair HARBOR) next phase outgoing)
+mill next phase outgoing = holds MILL (mill-entry next phase outgoing)
 
 abbrev pub harbor : ℕ → KeySet → Table
-harbor expected incoming = holds HARBOR (receiving-side (entry-for key-name pair MILL) expected incoming)
+harbor expected incoming = holds HARBOR (harbor-entry expected incoming)
 
 -- ---- the calls
 

@@ -11,7 +11,7 @@ use Rattle.csm.specs.Message.{Ksm, Esm, ksm, esm, read}
 use Rattle.partner.specs.declared.KeySet.{KeySet}
 use Rattle.partner.specs.declared.Entry.{Entry}
 use Rattle.partner.specs.Entry.{waiting, confirmed, broken, no-keys, one-key}
-use Rattle.partner.specs.Changes.{sending, failed}
+use Rattle.partner.specs.Changes.{failed}
 use Rattle.calls.specs.declared.Request.{Request}
 use Rattle.calls.specs.Words.{if_then_else_}
 use Rattle.calls.specs.Outcome.{P, success, complaint, nothing, keys, confirmation, failure}
@@ -24,7 +24,7 @@ use Rattle.line.proofs.CoreEnds.{Answer, answer}
 use Rattle.line.proofs.CardEnds.{carried-in, carried-by, called-by, carried-at}
 use Rattle.line.proofs.Theorem.{late-error-is-harmless}
 use Rattle.line.proofs.ExampleCards.{computes, asked, data-key, first-keys}
-use Rattle.line.proofs.ExampleCards.{answering-rsm, mill, harbor}
+use Rattle.line.proofs.ExampleCards.{answering-rsm, mill-entry, mill, harbor}
 use Rattle.line.proofs.ExampleRuns.{state, both-started, afresh, answered, answered-run, Run}
 use Rattle.line.proofs.ExampleRuns.{after-mill, after-harbor, at-mill, at-harbor}
 
@@ -189,14 +189,14 @@ distinct t u m n ht hu rt ru e =
 
 -- ---- confirmed, and what the theorem then says
 
-abbrev mill-entry : Entry
-mill-entry = sending (entry-for key-name pair HARBOR) 3 confirmed new-keys
+abbrev mill-anew : Entry
+mill-anew = mill-entry 3 confirmed new-keys
 
-pub anew-confirmed : (entry-of HARBOR (agreed-anew .a) ≡ some mill-entry) × (mill-entry .phase ≡ confirmed)
+pub anew-confirmed : (entry-of HARBOR (agreed-anew .a) ≡ some mill-anew) × (mill-anew .sending .phase ≡ confirmed)
 unfolding computes
 anew-confirmed = (refl, refl)
 
-pub late-agreed : Agreed MILL HARBOR key-name pair agreed-anew mill-entry
+pub late-agreed : Agreed MILL HARBOR key-name pair agreed-anew (mill-anew .sending)
 late-agreed =
-    late-error-is-harmless MILL HARBOR key-name pair afresh late distinct mill-entry (anew-confirmed .0)
+    late-error-is-harmless MILL HARBOR key-name pair afresh late distinct mill-anew (anew-confirmed .0)
     (anew-confirmed .1)

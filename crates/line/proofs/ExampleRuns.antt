@@ -10,19 +10,18 @@ use Rattle.csm.specs.Message.{read}
 use Rattle.partner.specs.declared.KeySet.{KeySet}
 use Rattle.partner.specs.declared.Entry.{Entry}
 use Rattle.partner.specs.Entry.{waiting, confirmed, broken, no-keys}
-use Rattle.partner.specs.Changes.{sending, receiving as receiving-side}
 use Rattle.partner.specs.Table.{Table}
 use Rattle.calls.specs.Words.{if_then_else_}
 use Rattle.calls.specs.Calls.{Call, receive, about, build-ksm, give-up, load, remove, After, entry-of, run, start}
 use Rattle.line.specs.Line.{State, texts, count-in, count-from, counted, In-64-bits, Allowed}
-use Rattle.line.specs.Line.{entry-for, Reach, begin, step-a, step-b, Afresh, Distinct, Agreed}
+use Rattle.line.specs.Line.{Reach, begin, step-a, step-b, Afresh, Distinct, Agreed}
 use Rattle.line.specs.Worked.{MILL, HARBOR, key-name, pair, other-name, other-key, mistyped}
 use Rattle.line.specs.Worked.{first-ksm, second-ksm}
 use Rattle.line.proofs.CardFresh as fresh
 use Rattle.line.proofs.Theorem.{agreement}
 use Rattle.line.proofs.ExampleCards.{computes, first-request, second-request}
 use Rattle.line.proofs.ExampleCards.{first-keys, second-keys, answering-rsm, started}
-use Rattle.line.proofs.ExampleCards.{mill, harbor, mill-removes-nobody, mill-mistypes, mill-loads}
+use Rattle.line.proofs.ExampleCards.{mill-entry, harbor-entry, mill, harbor, mill-removes-nobody, mill-mistypes, mill-loads}
 use Rattle.line.proofs.ExampleCards.{mill-loads-again, harbor-loads, mill-builds, harbor-takes}
 use Rattle.line.proofs.ExampleCards.{mill-confirms, mill-gives-up, mill-builds-again, mill-confirms-others}
 
@@ -134,19 +133,15 @@ agreed-run =
 pub agreed-distinct : Distinct MILL HARBOR key-name pair (agreed .from-a)
 agreed-distinct t u m n ht hu = λ rt ru e. List·Memᴰ·eq-of-singleton ht ∙ sym (List·Memᴰ·eq-of-singleton hu)
 
--- MILL's entry for HARBOR
-abbrev mill-entry : ℕ → KeySet → Entry
-mill-entry next outgoing = sending (entry-for key-name pair HARBOR) next confirmed outgoing
-
-pub agreed-confirmed : (entry-of HARBOR (agreed .a) ≡ some (mill-entry 2 first-keys))
-    × (mill-entry 2 first-keys .phase ≡ confirmed)
+pub agreed-confirmed : (entry-of HARBOR (agreed .a) ≡ some (mill-entry 2 confirmed first-keys))
+    × (mill-entry 2 confirmed first-keys .sending .phase ≡ confirmed)
 unfolding computes
 agreed-confirmed = (refl, refl)
 
 -- and what the theorem then says
-pub agreed-holds : Agreed MILL HARBOR key-name pair agreed (mill-entry 2 first-keys)
+pub agreed-holds : Agreed MILL HARBOR key-name pair agreed (mill-entry 2 confirmed first-keys .sending)
 agreed-holds =
-    agreement MILL HARBOR key-name pair afresh agreed-run agreed-distinct (mill-entry 2 first-keys)
+    agreement MILL HARBOR key-name pair afresh agreed-run agreed-distinct (mill-entry 2 confirmed first-keys)
     (agreed-confirmed .0) (agreed-confirmed .1)
 
 -- ---- the answer is late: MILL has given up and built a message with other keys, which calls for the same MAC
@@ -166,24 +161,20 @@ misled-run =
     (about HARBOR (build-ksm 256 second-request)) _ mill-builds-again second-small
     (at-mill answered (about HARBOR give-up) _ mill-gives-up tt answered-run))
 
-pub misled-confirmed : (entry-of HARBOR (misled .a) ≡ some (mill-entry 3 second-keys))
-    × (mill-entry 3 second-keys .phase ≡ confirmed)
+pub misled-confirmed : (entry-of HARBOR (misled .a) ≡ some (mill-entry 3 confirmed second-keys))
+    × (mill-entry 3 confirmed second-keys .sending .phase ≡ confirmed)
 unfolding computes
 misled-confirmed = (refl, refl)
 
-abbrev harbor-entry : Entry
-harbor-entry = receiving-side (entry-for key-name pair MILL) 2 first-keys
-
-harbor-holds : entry-of MILL (misled .b) ≡ some harbor-entry
+harbor-holds : entry-of MILL (misled .b) ≡ some (harbor-entry 2 first-keys)
 unfolding computes
 harbor-holds = refl
 
 -- HARBOR holds other keys
-pub misled-disagrees : Agreed MILL HARBOR key-name pair misled (mill-entry 3 second-keys) → ⊥
-unfolding receiving-side sending
+pub misled-disagrees : Agreed MILL HARBOR key-name pair misled (mill-entry 3 confirmed second-keys .sending) → ⊥
 misled-disagrees g =
-    let p : harbor-entry ≡ g .for-a = cc (g .held, harbor-holds) in
-    let k : first-keys ≡ second-keys = ap (λ (e : Entry). e .incoming) p ∙ g .keys in
+    let p : harbor-entry 2 first-keys ≡ g .for-a = cc (g .held, harbor-holds) in
+    let k : first-keys ≡ second-keys = ap (λ (e : Entry). e .receiving .incoming) p ∙ g .in-step .keys in
     let n : _≡_ {A = ℕ} 0x1122334455667788 0x1E2C3E485E6C7E80 = ap (λ (s : KeySet). s .first .key) k in
     omega (arith, n)
 
@@ -191,5 +182,5 @@ misled-disagrees g =
 pub misled-not-distinct : Distinct MILL HARBOR key-name pair (misled .from-a) → ⊥
 misled-not-distinct d =
     misled-disagrees
-    (agreement MILL HARBOR key-name pair afresh misled-run d (mill-entry 3 second-keys) (misled-confirmed .0)
+    (agreement MILL HARBOR key-name pair afresh misled-run d (mill-entry 3 confirmed second-keys) (misled-confirmed .0)
     (misled-confirmed .1))

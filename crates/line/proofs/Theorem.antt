@@ -11,6 +11,8 @@ use Rattle.csm.specs.Message.{Ksm, ksm, read}
 use Rattle.csm.proofs.TextLaws.{within-true}
 use Rattle.csm.proofs.MessageLaws.{read-back, legal-parts}
 use Rattle.partner.specs.declared.KeySet.{KeySet}
+use Rattle.partner.specs.declared.Sending.{Sending}
+use Rattle.partner.specs.declared.Receiving.{Receiving}
 use Rattle.partner.specs.declared.Entry.{Entry}
 use Rattle.partner.specs.Entry.{confirmed, limit}
 use Rattle.partner.specs.Changes.{loaded}
@@ -30,11 +32,11 @@ use Rattle.line.proofs.CardKept.{Good, good-fresh, good-run, there-stil
 use Rattle.line.proofs.CardFresh.{started, just-loaded, loaded-once}
 
 module _ (a b name : Text) (top : Top) where
-  -- the two entries of a state
-  abbrev pub view : State → Pair Entry Text
+  -- the two units of a state
+  abbrev pub view : State → Pair Sending Receiving Text
   view s = record {
-    a = see name top b (s .a);
-    b = see name top a (s .b);
+    a = see name top b (s .a) .sending;
+    b = see name top a (s .b) .receiving;
     from-a = s .from-a;
     from-b = s .from-b;
     accepted = s .accepted;
@@ -88,11 +90,11 @@ module _ (a b name : Text) (top : Top) where
       let at-a = fresh-idle b (entry-of b (s .a)) (f .card-a .entry) in
       let at-b = fresh-idle a (entry-of a (s .b)) (f .card-b .entry) in
       record {
-        idle = ap (λ (e : Entry). e .phase) at-a;
-        level = omega (arith, ap (λ (e : Entry). e .expected) at-b, ap (λ (e : Entry). e .next) at-a);
+        idle = ap (λ (e : Entry). e .sending .phase) at-a;
+        level = omega (arith, ap (λ (e : Entry). e .receiving .expected) at-b, ap (λ (e : Entry). e .sending .next) at-a);
         none-sent = λ t h. absurd (List·Memᴰ·not-nil (rw (f .a-silent) at h));
         others = λ r m h e. absurd (List·Memᴰ·not-nil (rw (f .b-silent) at h));
-        empty = λ h. omega (arith, ap (λ (e : Entry). e .expected) at-b);
+        empty = λ h. omega (arith, ap (λ (e : Entry). e .receiving .expected) at-b);
         none-taken = f .none-accepted;
       }
 
@@ -111,11 +113,11 @@ module _ (a b name : Text) (top : Top) where
       record { card-a = p .card-a; card-b = good-run name top b a (s .from-a) (s .b) c (p .card-b) may }
 
   rises : {s₀ s : State} → Afresh a b name top s₀ → Reach a b name top s₀ s
-      → CoreRising.Rises (E a b name top) (see name top a (s .b)) (s .accepted)
+      → CoreRising.Rises (E a b name top) (see name top a (s .b) .receiving) (s .accepted)
   rises {s₀} f begin = CoreRising.beginning (E a b name top) (view s₀) (beginning s₀ f)
   rises f (step-a r c may) = rises f r
   rises f (step-b {s = s} r c may) =
-      CoreRising.keep (E a b name top) (see name top a (s .b)) (see name top a (run (s .b) c .table)) (s .from-a)
+      CoreRising.keep (E a b name top) (see name top a (s .b) .receiving) (see name top a (run (s .b) c .table) .receiving) (s .from-a)
       (texts (run (s .b) c .outcome .reply)) (counted a c (run (s .b) c .outcome .answer)) (s .accepted) (rises f r)
       (takes a b name top (s .from-a) (s .b) c (cards f r .card-b) may)
 
@@ -124,18 +126,18 @@ module _ (a b name : Text) (top : Top) where
   along {s₀} f begin d = Core.beginning (E a b name top) (view s₀) (beginning s₀ f)
   along f (step-a {s = s} r c may) d =
       let d′ : Distinct a b name top (s .from-a) = fewer (texts (run (s .a) c .outcome .reply)) (s .from-a) d in
-      CoreSent.keep-a (E a b name top) (view s) (see name top b (run (s .a) c .table))
+      CoreSent.keep-a (E a b name top) (view s) (see name top b (run (s .a) c .table) .sending)
       (texts (run (s .a) c .outcome .reply)) (along f r d′) (apart (s .from-a) d′)
       (makes a b name top (s .from-b) (s .a) c (cards f r .card-a) may)
   along f (step-b {s = s} r c may) d =
-      CoreTaken.keep-b (E a b name top) (view s) (see name top a (run (s .b) c .table))
+      CoreTaken.keep-b (E a b name top) (view s) (see name top a (run (s .b) c .table) .receiving)
       (texts (run (s .b) c .outcome .reply)) (counted a c (run (s .b) c .outcome .answer)) (along f r d)
       (takes a b name top (s .from-a) (s .b) c (cards f r .card-b) may)
 
   -- ---- the conclusions
 
   -- B has taken a key message, whose count is at least 1, so A is in its table
-  there-at-b : (o : Option Entry) (n : ℕ) → 1 ≤ n → seen name top a o .expected ≡ suc n → (e : Entry) × (o ≡ some e)
+  there-at-b : (o : Option Entry) (n : ℕ) → 1 ≤ n → seen name top a o .receiving .expected ≡ suc n → (e : Entry) × (o ≡ some e)
   unfolding seen loaded
   there-at-b none n l h = absurd (omega arith)
   there-at-b (some e) n l h = (e, refl)
@@ -150,18 +152,22 @@ module _ (a b name : Text) (top : Top) where
 
   agreed : (s : State) (for-b for-a : Entry) → see name top b (s .a) ≡ for-b → see name top a (s .b) ≡ for-a
       → entry-of a (s .b) ≡ some for-a → (m : CoreEnds.Meets (E a b name top) (view s))
-      → Read-as a b name top (m .message) (m .number) (see name top b (s .a) .outgoing) → Agreed a b name top s for-b
+      → Read-as a b name top (m .message) (m .number) (see name top b (s .a) .sending .outgoing) → Agreed a b name top s (for-b .sending)
   agreed s for-b for-a mine theirs held m k = record {
     text = m .message;
     message = k .message;
     sent = m .sent;
     reading = k .reading;
-    carried = k .keys ∙ ap (λ (e : Entry). e .outgoing) mine;
+    carried = k .keys ∙ ap (λ (e : Entry). e .sending .outgoing) mine;
     for-a = for-a;
     held = held;
-    keys = ap (λ (e : Entry). e .incoming) (sym theirs) ∙ m .keys ∙ ap (λ (e : Entry). e .outgoing) mine;
-    next-send = ap (λ (e : Entry). e .next) (sym mine) ∙ m .a-count ∙ number;
-    expected = ap (λ (e : Entry). e .expected) (sym theirs) ∙ m .b-count ∙ number;
+    in-step = record {
+      keys =
+          ap (λ (e : Entry). e .receiving .incoming) (sym theirs) ∙ m .keys
+          ∙ ap (λ (e : Entry). e .sending .outgoing) mine;
+      next-send = ap (λ (e : Entry). e .sending .next) (sym mine) ∙ m .a-count ∙ number;
+      expected = ap (λ (e : Entry). e .receiving .expected) (sym theirs) ∙ m .b-count ∙ number;
+    };
     accepted = subst (λ (n : ℕ). n ∈ s .accepted) (sym (k .count)) (m .took);
   }
     where
@@ -170,14 +176,14 @@ module _ (a b name : Text) (top : Top) where
 
   pub agreement : {s₀ s : State} → Afresh a b name top s₀ → Reach a b name top s₀ s
       → Distinct a b name top (s .from-a) → (for-b : Entry) → entry-of b (s .a) ≡ some for-b
-      → for-b .phase ≡ confirmed → Agreed a b name top s for-b
+      → for-b .sending .phase ≡ confirmed → Agreed a b name top s (for-b .sending)
   agreement {s₀} {s} f r d for-b h ph =
       let mine : see name top b (s .a) ≡ for-b = seen-is b (s .a) for-b h in
       let m : CoreEnds.Meets (E a b name top) (view s) =
       Core.conclusion (E a b name top) (view s) (along f r d) (apart (s .from-a) d)
-      (ap (λ (e : Entry). e .phase) mine ∙ ph) in
-      let k : Read-as a b name top (m .message) (m .number) (see name top b (s .a) .outgoing) =
-      read-as a b name top (m .message) (m .number) (see name top b (s .a) .outgoing) (m .is) in
+      (ap (λ (e : Entry). e .sending .phase) mine ∙ ph) in
+      let k : Read-as a b name top (m .message) (m .number) (see name top b (s .a) .sending .outgoing) =
+      read-as a b name top (m .message) (m .number) (see name top b (s .a) .sending .outgoing) (m .is) in
       let low : 1 ≤ m .number = omega (arith, counted-once (m .message) (k .message) (k .reading), k .count) in
       let there : (e : Entry) × (entry-of a (s .b) ≡ some e) =
       there-at-b (entry-of a (s .b)) (m .number) low (m .b-count) in
@@ -214,7 +220,7 @@ module _ (a b name : Text) (top : Top) where
 
   pub late-error-is-harmless : {s₀ s : State} → Afresh a b name top s₀ → Late-error a b name top s₀ s
       → Distinct a b name top (s .from-a) → (for-b : Entry) → entry-of b (s .a) ≡ some for-b
-      → for-b .phase ≡ confirmed → Agreed a b name top s for-b
+      → for-b .sending .phase ≡ confirmed → Agreed a b name top s (for-b .sending)
   late-error-is-harmless f h d = agreement f (late-error-run h) d
 
   -- ---- a card that has the other in its table

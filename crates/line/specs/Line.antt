@@ -11,6 +11,8 @@ use Rattle.keying.specs.declared.Top.{Top}
 use Rattle.keying.specs.Mac.{mac-key, mac}
 use Rattle.csm.specs.Message.{Ksm, Esm, Body, rsi, ksm, rsm, esm, option, Reading, read}
 use Rattle.csm.specs.Covered.{covered-part}
+use Rattle.partner.specs.declared.Sending.{Sending}
+use Rattle.partner.specs.declared.Receiving.{Receiving}
 use Rattle.partner.specs.declared.Entry.{Entry}
 use Rattle.partner.specs.Entry.{name-of, keys-in, confirmed}
 use Rattle.partner.specs.Changes.{loaded}
@@ -119,6 +121,12 @@ module _ (name : Text) (top : Top) where
     pub identity : bare (t .own) ≡ own
     pub entry : (entry-of other t ≡ none) ⊎ (entry-of other t ≡ some (entry-for other))
 
+-- B's receiving unit holds the very keys of A's sending unit, with their names, under the count of the key message
+pub record In-step (ours : Sending) (theirs : Receiving) (m : Ksm) : Type 0 where
+  pub keys : theirs .incoming ≡ ours .outgoing
+  pub next-send : ours .next ≡ m .ctp + 1
+  pub expected : theirs .expected ≡ m .ctp + 1
+
 -- A is under the identity a, B under b
 module _ (a b name : Text) (top : Top) where
   -- what calls at either end lead to: there is no step for starting a card again, nor for restoring or altering a table
@@ -161,18 +169,16 @@ module _ (a b name : Text) (top : Top) where
 
   -- ---- the conclusions
 
-  -- B holds the very keys of A's entry for it, with their names, under the count of the key message that carried them
-  pub record Agreed (s : State) (for-b : Entry) : Type 0 where
+  -- and that message, which A has written and B accepted, carried them
+  pub record Agreed (s : State) (ours : Sending) : Type 0 where
     pub text : Text
     pub message : Ksm
     pub sent : text ∈ s .from-a
     pub reading : read text ≡ some (a-to-b (ksm message))
-    pub carried : brought (entry-for name top a) message ≡ for-b .outgoing
+    pub carried : brought (entry-for name top a) message ≡ ours .outgoing
     pub for-a : Entry
     pub held : entry-of a (s .b) ≡ some for-a
-    pub keys : for-a .incoming ≡ for-b .outgoing
-    pub next-send : for-b .next ≡ message .ctp + 1
-    pub expected : for-a .expected ≡ message .ctp + 1
+    pub in-step : In-step ours (for-a .receiving) message
     pub accepted : message .ctp ∈ s .accepted
 
   -- the history of an error that comes too late: what A has sent is sent again and reaches B, and after that an ESM
@@ -195,12 +201,12 @@ module _ (a b name : Text) (top : Top) where
   pub record Claims : Type 0 where
     -- whenever A says that its keys to B are confirmed, B holds those very keys, with their names, under the same count
     pub agreement : {s₀ s : State} → Afresh s₀ → Reach s₀ s → Distinct (s .from-a)
-        → (for-b : Entry) → entry-of b (s .a) ≡ some for-b → for-b .phase ≡ confirmed → Agreed s for-b
+        → (for-b : Entry) → entry-of b (s .a) ≡ some for-b → for-b .sending .phase ≡ confirmed → Agreed s (for-b .sending)
     -- the counts of the key messages that B accepts from A strictly rise
     pub rise : {s₀ s : State} → Afresh s₀ → Reach s₀ s → Rising (s .accepted)
     -- `agreement` on one kind of run: an old ESM after a resend never leaves A confirmed with keys that B does not hold
     pub late-error-is-harmless : {s₀ s : State} → Afresh s₀ → Late-error s₀ s → Distinct (s .from-a)
-        → (for-b : Entry) → entry-of b (s .a) ≡ some for-b → for-b .phase ≡ confirmed → Agreed s for-b
+        → (for-b : Entry) → entry-of b (s .a) ≡ some for-b → for-b .sending .phase ≡ confirmed → Agreed s (for-b .sending)
     -- a card that was started is fresh, and so is one that was just loaded for the other
     pub started : (own other : Text) (t : Table) → start own ≡ some t → Fresh name top own other t
     pub just-loaded : (own other : Text) (t : Table) → bare (t .own) ≡ own

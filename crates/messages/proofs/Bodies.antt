@@ -11,22 +11,21 @@ use Rattle.octets.specs.Text.{Text, all, within, run-char, is-run}
 use Rattle.keying.specs.Mac.{mac}
 use Rattle.keying.proofs.Laws.{mac-lt}
 use Rattle.csm.specs.Format.{maybe-legal}
-use Rattle.csm.specs.Fields.{hex-text, field, nonempty, has-P, contents, IV, EDK, MAC}
+use Rattle.csm.specs.Fields.{hex-text, field, has-P, contents, KD, IV, EDK, MAC}
 use Rattle.csm.specs.Message.{legal-body}
 use Rattle.csm.specs.Covered.{covered-part}
 use Rattle.csm.proofs.TextLaws.{within-true, true-within, or-right, all-weaker}
 use Rattle.csm.proofs.NumberLaws.{hex-run, hex-length}
 use Rattle.csm.proofs.FieldLaws.{below-at}
-use Rattle.writer.specs.declared.Keys.{Keys}
-use Rattle.writer.specs.declared.Keys.the-variants.{One, Two}
 use Rattle.writer.specs.declared.Vector.{Vector}
 use Rattle.writer.specs.declared.Vector.the-variants.{Absent, Plain, Enciphered}
 use Rattle.messages.specs.declared.Counts.{Counts}
 use Rattle.messages.specs.declared.Counts.the-variants.{Without, Both}
+use Rattle.messages.specs.declared.Ksm.{Ksm}
 use Rattle.messages.specs.Readings.{rsi-reading, rsm-reading, esm-reading, ksm-reading, unsealed-rsm}
-use Rattle.writer.specs.Contents.{iv-of}
+use Rattle.writer.specs.Contents.{there, kd-of, iv-of}
 use Rattle.messages.specs.Readings.{unsealed-ksm}
-use Rattle.messages.specs.Parts.{counts-legal, error-legal, kd-legal, keys-legal, dated-legal}
+use Rattle.messages.specs.Parts.{counts-legal, error-legal, kd-legal, keys-legal, dated-legal, ksm-legal}
 use Rattle.messages.proofs.Judging.{and-yes}
 
 -- ---- RSI and RSM
@@ -125,24 +124,15 @@ iv-legal (Plain v) = iv-run 80 v refl
 iv-legal (Enciphered v) = iv-run 69 v refl
 
 -- the order of the fields
-one-order : (k e c : Bool) → k && (e && (c && true)) ≡ (k && true) && (e && c)
-one-order true e c = ap (λ (b : Bool). e && b) (and-yes c)
-one-order false e c = refl
+ordered-ksm : (k s e c : Bool) → k && (s && (e && (c && true))) ≡ (k && s) && (e && c)
+ordered-ksm true true e c = ap (λ (b : Bool). e && b) (and-yes c)
+ordered-ksm true false e c = refl
+ordered-ksm false s e c = refl
 
-two-order : (k s e c : Bool) → k && (s && (e && (c && true))) ≡ (k && s) && (e && c)
-two-order true true e c = ap (λ (b : Bool). e && b) (and-yes c)
-two-order true false e c = refl
-two-order false s e c = refl
-
-pub ksm-legal : (rcv org : Text) (keys : Keys) (i j u w : Text) (v : Vector) (d : Text) (n key : ℕ)
-    → legal-body (ksm-reading rcv org keys i j u w v d n key .body) ≡ keys-legal keys i j u w && dated-legal d n
-unfolding ksm-reading keys-legal kd-legal dated-legal
-ksm-legal rcv org (One a) i j u w v d n key =
-    let t = covered-part (unsealed-ksm rcv org (One a) i j u w v d n 0) in
-    rw (iv-legal v, mac-legal (mac key t) (mac-lt key t))
-    (one-order (kd-legal (a .sealed) i j) (maybe-legal (field EDK) (nonempty d)) (within 1 99_999_999 n))
-ksm-legal rcv org (Two a b) i j u w v d n key =
-    let t = covered-part (unsealed-ksm rcv org (Two a b) i j u w v d n 0) in
-    rw (iv-legal v, mac-legal (mac key t) (mac-lt key t))
-    (two-order (kd-legal (a .sealed) i j) (kd-legal (b .sealed) u w) (maybe-legal (field EDK) (nonempty d))
-    (within 1 99_999_999 n))
+pub ksm-body-legal : (rcv org : Text) (k : Ksm) (key : ℕ) → legal-body (ksm-reading rcv org k key .body) ≡ ksm-legal k
+unfolding ksm-reading ksm-legal keys-legal kd-legal dated-legal
+ksm-body-legal rcv org k key =
+    let t = covered-part (unsealed-ksm rcv org k 0) in
+    rw (iv-legal (k .vector), mac-legal (mac key t) (mac-lt key t))
+    (ordered-ksm (kd-legal (k .first)) (maybe-legal (field KD) (there (k .two) (kd-of (k .second))))
+    (maybe-legal (field EDK) (there (k .dated) (k .edk))) (within 1 99_999_999 (k .ctp)))

@@ -92,12 +92,11 @@ claims = record {
   rsm-left = λ rcv org l key n e. left (rsm-reading rcv org key) l n 69 e (rsm-short rcv org key) (omega arith);
   esm-left = λ rcv org l x c n e. left (esm-reading rcv org x c) l n 95 e (esm-short rcv org x c) (omega arith);
   esm-of-three = λ rcv org l x c n h e. left (esm-reading rcv org x c) l n 89 e (esm-three rcv org x c h) (omega arith);
-  ksm-left = λ rcv org ks i j u w v d x key l n e.
-      let r = ksm-reading rcv org ks i j u w v d x key in
+  ksm-left = λ rcv org k key l n e.
+      let r = ksm-reading rcv org k key in
       left r l n 232 e (known-short r refl) (omega arith);
   rsm-mac = λ rcv org key k. sealed-over (unsealed-rsm rcv org) key (λ m. refl) (λ m. refl) k;
-  ksm-mac = λ rcv org ks i j u w v d x key k.
-      sealed-over (unsealed-ksm rcv org ks i j u w v d x) key (λ m. refl) (λ m. refl) k;
+  ksm-mac = λ rcv org k key h. sealed-over (unsealed-ksm rcv org k) key (λ m. refl) (λ m. refl) h;
   mill-to-harbor = λ key. refl;
   mill-to-harbor-covered = λ key. refl;
   longest-ksm = λ a b v key. refl;

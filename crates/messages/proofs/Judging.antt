@@ -8,24 +8,23 @@ use lib.ListN.{length}
 use borrow.Author.Tests.{leb-true}
 use Rattle.octets.specs.Text.{Text, within, is-name}
 use Rattle.octets.proofs.Comparing.{both as and-true}
-use Rattle.writer.specs.Laid.{Laid}
-use Rattle.writer.proofs.Laying.{laid-fits}
+use Rattle.octets.specs.Wrote.{Wrote}
+use Rattle.octets.proofs.Writing.{wrote-fits}
 use Rattle.messages.proofs.Lengths.{known-short}
 use Rattle.csm.specs.Format.{maybe-legal}
-use Rattle.csm.specs.Fields.{field, EDK, nonempty}
+use Rattle.csm.specs.Fields.{field, EDK}
 use Rattle.csm.specs.Message.{Reading, legal, legal-body, print}
 use Rattle.csm.proofs.TextLaws.{within-true}
 use Rattle.csm.proofs.MessageLaws.{legal-parts}
 use Rattle.csm.proofs.LengthLaws.{known, known-legal}
 use Rattle.messages.specs.declared.Written.{Written}
 use Rattle.messages.specs.declared.Written.the-variants.{Length, Nothing}
-use Rattle.writer.specs.declared.Key.{Key}
-use Rattle.writer.specs.declared.Keys.{Keys}
-use Rattle.writer.specs.declared.Keys.the-variants.{One, Two}
+use Rattle.writer.specs.Contents.{there}
 use Rattle.messages.specs.declared.Counts.{Counts}
 use Rattle.messages.specs.declared.Counts.the-variants.{Without, Both}
+use Rattle.messages.specs.declared.Ksm.{Ksm}
 use Rattle.messages.specs.Answers.{writes, answer, buffer}
-use Rattle.messages.specs.Parts.{counts-legal, counts-agree, error-legal, kd-legal, keys-legal, dated-legal}
+use Rattle.messages.specs.Parts.{counts-legal, counts-agree, error-legal, keys-legal, dated-legal, ksm-legal}
 
 -- ---- truth values
 
@@ -65,11 +64,13 @@ error-counts n c k =
     let h = and-true (within 1 511 n) (counts-agree c p && counts-legal c) k in
     and-true (counts-agree c p) (counts-legal c) (h .1) .1
 
-pub dated-count : (d : Text) (n : ℕ) → dated-legal d n ≡ true → n < 100_000_000
-unfolding dated-legal
-dated-count d n k =
-    let h = and-true (maybe-legal (field EDK) (nonempty d)) (within 1 99_999_999 n) k in
-    let i = within-true 1 99_999_999 n (h .1) in
+pub ksm-count : (k : Ksm) → ksm-legal k ≡ true → k .ctp < 100_000_000
+unfolding ksm-legal dated-legal
+ksm-count k h =
+    let keys = keys-legal (k .first) (k .two) (k .second) in
+    let edk = maybe-legal (field EDK) (there (k .dated) (k .edk)) in
+    let d = and-true edk (within 1 99_999_999 (k .ctp)) (and-true keys (dated-legal (k .dated) (k .edk) (k .ctp)) h .1) in
+    let i = within-true 1 99_999_999 (k .ctp) (d .1) in
     omega arith
 
 -- ---- case by case
@@ -83,16 +84,6 @@ pub counts-without : {counts : Counts} (b : Bool) → counts ≡ Without
     → counts-agree counts b && counts-legal counts ≡ not b
 unfolding counts-legal
 counts-without b e = ap (λ (c : Counts). counts-agree c b && counts-legal c) e ∙ and-yes (not b)
-
-pub one-legal : {keys : Keys} (a : Key) (i j u w : Text) → keys ≡ One a
-    → keys-legal keys i j u w ≡ kd-legal (a .sealed) i j
-unfolding keys-legal
-one-legal a i j u w e = ap (λ (x : Keys). keys-legal x i j u w) e ∙ and-yes (kd-legal (a .sealed) i j)
-
-pub two-legal : {keys : Keys} (a b : Key) (i j u w : Text) → keys ≡ Two a b
-    → keys-legal keys i j u w ≡ kd-legal (a .sealed) i j && kd-legal (b .sealed) u w
-unfolding keys-legal kd-legal
-two-legal a b i j u w e = ap (λ (x : Keys). keys-legal x i j u w) e
 
 -- ---- the answer
 
@@ -142,10 +133,10 @@ module _ (r : Reading) (l : Text) (e : known (r .body) ≡ true) where
       let short = known-short r e (legal-known r e ∙ ap (λ (x : Bool). x && legal-body (r .body)) (h .1) ∙ b) in
       omega arith
 
-  pub done : {l₁ : Text} {n : ℕ} → addressable r l ≡ true → legal-body (r .body) ≡ true → Laid (print r) l l₁ n
+  pub done : {l₁ : Text} {n : ℕ} → addressable r l ≡ true → legal-body (r .body) ≡ true → Wrote (print r) l l₁ n
       → Answers r l l₁ (Length n)
   unfolding answer buffer
   done {l₁} {n} a b p =
-      let w = laid-fits p (fits a b) in
+      let w = wrote-fits p (fits a b) in
       let k : writes r l ≡ true = writes-is r l e ∙ ap (λ (x : Bool). x && legal-body (r .body)) a ∙ b in
-      (ap Length (w .count) ∙ rw k, w .text ∙ rw k)
+      (ap Length (w .1) ∙ rw k, w .0 ∙ rw k)

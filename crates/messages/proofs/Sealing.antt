@@ -13,8 +13,8 @@ use Rattle.keying.specs.Mac.{mac}
 use Rattle.csm.specs.Message.{Reading, print}
 use Rattle.csm.specs.Covered.{covered-part, mac-of}
 use Rattle.csm.proofs.CoveredLaws.{mac-end, mac-end-length, sealed-text}
-use Rattle.writer.specs.Laid.{Laid}
-use Rattle.writer.proofs.Laying.{laid-as, laid-fits}
+use Rattle.octets.specs.Wrote.{Wrote}
+use Rattle.octets.proofs.Writing.{wrote-as, wrote-fits}
 use Rattle.messages.specs.Readings.{sealed}
 use Rattle.messages.specs.Parts.{sealed-front, unsealed-text}
 
@@ -24,8 +24,8 @@ over-again [] t l = refl
 over-again (a ∷ x) t [] = refl
 over-again (a ∷ x) t (b ∷ l) = ap (λ (s : Text). a ∷ s) (over-again x t l)
 
-laid-again : {x l l₁ l₂ : Text} {n m : ℕ} (t : Text) → Laid x l l₁ n → Laid (x ++ t) l₁ l₂ m → Laid (x ++ t) l l₂ m
-laid-again {x} {l} {l₁} {l₂} {n} {m} t p q =
+wrote-again : {x l l₁ l₂ : Text} {n m : ℕ} (t : Text) → Wrote x l l₁ n → Wrote (x ++ t) l₁ l₂ m → Wrote (x ++ t) l l₂ m
+wrote-again {x} {l} {l₁} {l₂} {n} {m} t p q =
     let c = q .count in
     let s = ap length (p .text) ∙ length-over x l in
     record {
@@ -55,7 +55,7 @@ module _ {q : ℕ → Reading} (s : Sealable q) (key : ℕ) where
       let c = ap length text-is in
       omega arith
 
-  module _ {l l₁ : Text} {n : ℕ} (p : Laid (unsealed-text q) l l₁ n)
+  module _ {l l₁ : Text} {n : ℕ} (p : Wrote (unsealed-text q) l l₁ n)
       (h : length (print (sealed key q)) ≤ length l) where
     pub seal-ready : (4 ≤ n) × (n ≤ length l₁)
     unfolding unsealed-text
@@ -65,18 +65,18 @@ module _ {q : ℕ → Reading} (s : Sealable q) (key : ℕ) where
         let e = ap length (p .text) ∙ length-over (unsealed-text q) l in
         (omega arith, omega arith)
 
-    pub laid-sealed : {l₂ : Text} {m : ℕ} → Laid (sealed-front n key l₁) l₁ l₂ m → Laid (print (sealed key q)) l l₂ m
+    pub wrote-sealed : {l₂ : Text} {m : ℕ} → Wrote (sealed-front n key l₁) l₁ l₂ m → Wrote (print (sealed key q)) l l₂ m
     unfolding unsealed-text sealed-front
-    laid-sealed {l₂} {m} w =
+    wrote-sealed {l₂} {m} w =
         let v = covered-part (q 0) in
         let x = ascii "CSM(" ++ v in
         let i = length-is in
-        let f = laid-fits p (omega arith) in
-        let a : take n l₁ ≡ x = ap (take n) (f .text) ∙ take-at x (drop (length x) l) n (sym (f .count)) in
+        let f = wrote-fits p (omega arith) in
+        let a : take n l₁ ≡ x = ap (take n) (f .0) ∙ take-at x (drop (length x) l) n (sym (f .1)) in
         let b : take (n - 4) (drop 4 l₁) ≡ v =
-        ap (λ (r : Text). take (n - 4) (drop 4 r)) (f .text)
-        ∙ take-at v (drop (length x) l) (n - 4) (omega (arith, f .count)) in
+        ap (λ (r : Text). take (n - 4) (drop 4 r)) (f .0)
+        ∙ take-at v (drop (length x) l) (n - 4) (omega (arith, f .1)) in
         let e : sealed-front n key l₁ ≡ x ++ mac-end (mac key v) =
         ap (λ (r : Text). r ++ mac-end (mac key (take (n - 4) (drop 4 l₁)))) a
         ∙ ap (λ (r : Text). x ++ mac-end (mac key r)) b in
-        laid-as text-is (laid-again (mac-end (mac key v)) p (laid-as e w))
+        wrote-as text-is (wrote-again (mac-end (mac key v)) p (wrote-as e w))

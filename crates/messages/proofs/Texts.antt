@@ -5,16 +5,14 @@ use Prim.Native.Nat.{ℕ, _%_, _<_}
 use native.Mathlib.Nat.{mod-eq-of-lt}
 use Rattle.octets.specs.Text.{Text, ascii, blank}
 use Rattle.csm.specs.Format.{maybe-print}
-use Rattle.csm.specs.Fields.{decimal, nonempty, field, RCV, ORG, SVR, KD, IV, EDK, CTP, CTR, ERF}
+use Rattle.csm.specs.Fields.{decimal, field, RCV, ORG, SVR, KD, IV, EDK, CTP, CTR, ERF}
 use Rattle.csm.specs.Message.{print}
 use Rattle.csm.specs.Covered.{covered-part}
-use Rattle.writer.specs.declared.Keys.{Keys}
-use Rattle.writer.specs.declared.Vector.{Vector}
 use Rattle.messages.specs.declared.Counts.{Counts}
 use Rattle.messages.specs.declared.Counts.the-variants.{Without, Both}
-use Rattle.writer.specs.Contents.{kd-of, first, second-of, iv-of}
+use Rattle.messages.specs.declared.Ksm.{Ksm}
+use Rattle.writer.specs.Contents.{there, kd-of, iv-of, keys-text}
 use Rattle.messages.specs.Readings.{ctp-of, ctr-of}
-use Rattle.writer.specs.Contents.{keys-text}
 use Rattle.messages.specs.Parts.{counts-text}
 use Rattle.messages.specs.Readings.{rsi-reading, esm-reading, unsealed-rsm, unsealed-ksm}
 use Rattle.messages.specs.Parts.{tail-text, unsealed-text}
@@ -41,15 +39,15 @@ both-counts p r e h k =
     ∙ ap (λ (t : Text). (ascii "CTP/" ++ (decimal 7 p ++ blank ∷ [])) ++ t) (count-is (ascii "CTR/") r k)
     ∙ ap counts-text (sym e)
 
-pub tail-parts : (v : Vector) (d : Text) (n : ℕ) → n < 100_000_000
-    → (maybe-print (field IV) (iv-of v) ++ maybe-print (field EDK) (nonempty d))
-    ++ (ascii "CTP/" ++ (decimal 7 (n % 100_000_000) ++ blank ∷ []))
-    ≡ tail-text v d n
+pub tail-parts : (k : Ksm) → k .ctp < 100_000_000
+    → (maybe-print (field IV) (iv-of (k .vector)) ++ maybe-print (field EDK) (there (k .dated) (k .edk)))
+    ++ (ascii "CTP/" ++ (decimal 7 (k .ctp % 100_000_000) ++ blank ∷ []))
+    ≡ tail-text k
 unfolding tail-text
-tail-parts v d n h =
-    let x = maybe-print (field IV) (iv-of v) in
-    let y = maybe-print (field EDK) (nonempty d) in
-    ap (λ (t : Text). (x ++ y) ++ t) (count-is (ascii "CTP/") n h) ∙ append-assoc x y (field CTP .print n)
+tail-parts k h =
+    let x = maybe-print (field IV) (iv-of (k .vector)) in
+    let y = maybe-print (field EDK) (there (k .dated) (k .edk)) in
+    ap (λ (t : Text). (x ++ y) ++ t) (count-is (ascii "CTP/") (k .ctp) h) ∙ append-assoc x y (field CTP .print (k .ctp))
 
 -- ---- the messages: what starts each, RCV and ORG, and what follows
 
@@ -89,18 +87,19 @@ rsm-text rcv org = go (ascii "CSM(MCL/RSM ") (field RCV .print rcv) (field ORG .
     go : (s r o : Text) → s ++ (r ++ o) ≡ (s ++ (r ++ (o ++ []))) ++ []
     go s r o = sym (append-nil (s ++ (r ++ (o ++ []))) ∙ ap (λ (t : Text). s ++ (r ++ t)) (append-nil o))
 
-pub ksm-text : (rcv org : Text) (keys : Keys) (i j u w : Text) (v : Vector) (d : Text) (n : ℕ)
-    → ((ascii "CSM(MCL/KSM " ++ (field RCV .print rcv ++ field ORG .print org)) ++ keys-text keys i j u w)
-    ++ tail-text v d n
-    ≡ unsealed-text (unsealed-ksm rcv org keys i j u w v d n)
+pub ksm-text : (rcv org : Text) (k : Ksm)
+    → ((ascii "CSM(MCL/KSM " ++ (field RCV .print rcv ++ field ORG .print org)) ++ keys-text (k .first) (k .two) (k .second))
+    ++ tail-text k
+    ≡ unsealed-text (unsealed-ksm rcv org k)
 unfolding unsealed-text covered-part keys-text tail-text
-ksm-text rcv org keys i j u w v d n =
-    whole (ascii "CSM(MCL/KSM ") (field RCV .print rcv) (field ORG .print org)
-    (field KD .print (kd-of (first keys) i j) ++ maybe-print (field KD) (second-of keys u w))
-    (maybe-print (field IV) (iv-of v) ++ (maybe-print (field EDK) (nonempty d) ++ field CTP .print n))
-    ∙ go (ascii "CSM(MCL/KSM " ++ (field RCV .print rcv ++ (field ORG .print org ++ [])))
-    (field KD .print (kd-of (first keys) i j)) (maybe-print (field KD) (second-of keys u w))
-    (maybe-print (field IV) (iv-of v)) (maybe-print (field EDK) (nonempty d)) (field CTP .print n)
+ksm-text rcv org k =
+    let f = field KD .print (kd-of (k .first)) in
+    let s = maybe-print (field KD) (there (k .two) (kd-of (k .second))) in
+    let v = maybe-print (field IV) (iv-of (k .vector)) in
+    let d = maybe-print (field EDK) (there (k .dated) (k .edk)) in
+    let n = field CTP .print (k .ctp) in
+    whole (ascii "CSM(MCL/KSM ") (field RCV .print rcv) (field ORG .print org) (f ++ s) (v ++ (d ++ n))
+    ∙ go (ascii "CSM(MCL/KSM " ++ (field RCV .print rcv ++ (field ORG .print org ++ []))) f s v d n
   where
     go : (h k l x y z : Text) → h ++ ((k ++ l) ++ (x ++ (y ++ z))) ≡ h ++ (k ++ (l ++ (x ++ (y ++ (z ++ [])))))
     go h k l x y z =
@@ -113,7 +112,6 @@ pub rsm-sealable : (rcv org : Text) → Sealable (unsealed-rsm rcv org)
 unfolding covered-part
 rsm-sealable rcv org = record { has = λ k. refl; same = λ k. refl }
 
-pub ksm-sealable : (rcv org : Text) (keys : Keys) (i j u w : Text) (v : Vector) (d : Text) (n : ℕ)
-    → Sealable (unsealed-ksm rcv org keys i j u w v d n)
+pub ksm-sealable : (rcv org : Text) (k : Ksm) → Sealable (unsealed-ksm rcv org k)
 unfolding covered-part
-ksm-sealable rcv org keys i j u w v d n = record { has = λ k. refl; same = λ k. refl }
+ksm-sealable rcv org k = record { has = λ m. refl; same = λ m. refl }

@@ -9,11 +9,9 @@ use Rattle.keying.specs.Mac.{mac}
 use Rattle.csm.specs.Fields.{erf}
 use Rattle.csm.specs.Message.{Reading, legal, print, read}
 use Rattle.csm.specs.Covered.{covered, mac-of}
-use Rattle.writer.specs.declared.Keys.{Keys}
-use Rattle.writer.specs.declared.Keys.the-variants.{Two}
-use Rattle.writer.specs.declared.Vector.{Vector}
 use Rattle.writer.specs.declared.Vector.the-variants.{Plain}
 use Rattle.messages.specs.declared.Counts.{Counts}
+use Rattle.messages.specs.declared.Ksm.{Ksm}
 use Rattle.messages.specs.declared.Written.the-variants.{Length, Nothing}
 use Rattle.messages.specs.Readings.{rsi-reading, rsm-reading, esm-reading, ksm-reading}
 use Rattle.messages.specs.Answers.{answer, buffer}
@@ -46,26 +44,26 @@ pub record Claims : Type 0 where
   pub esm-of-three : (rcv org l : Text) (letters : ℕ) (counts : Counts) (n : ℕ) → length (erf .text letters) ≤ 3
       → answer (esm-reading rcv org letters counts) l ≡ Length n
       → Left (esm-reading rcv org letters counts) l n 89
-  pub ksm-left : (rcv org : Text) (keys : Keys) (idk1 idk2 second-idk1 second-idk2 : Text) (vector : Vector)
-      (edk : Text) (ctp key : ℕ) (l : Text) (n : ℕ)
-      → answer (ksm-reading rcv org keys idk1 idk2 second-idk1 second-idk2 vector edk ctp key) l ≡ Length n
-      → Left (ksm-reading rcv org keys idk1 idk2 second-idk1 second-idk2 vector edk ctp key) l n 232
+  pub ksm-left : (rcv org : Text) (k : Ksm) (key : ℕ) (l : Text) (n : ℕ) → answer (ksm-reading rcv org k key) l ≡ Length n
+      → Left (ksm-reading rcv org k key) l n 232
   -- the MAC is that of the text from the M of `MCL/` through the blank before `MAC/`
   pub rsm-mac : (rcv org : Text) (key : ℕ) → legal (rsm-reading rcv org key) ≡ true
       → mac-of (rsm-reading rcv org key .body) ≡ some (mac key (covered (print (rsm-reading rcv org key))))
-  pub ksm-mac : (rcv org : Text) (keys : Keys) (idk1 idk2 second-idk1 second-idk2 : Text) (vector : Vector)
-      (edk : Text) (ctp key : ℕ)
-      → legal (ksm-reading rcv org keys idk1 idk2 second-idk1 second-idk2 vector edk ctp key) ≡ true
-      → mac-of (ksm-reading rcv org keys idk1 idk2 second-idk1 second-idk2 vector edk ctp key .body)
-      ≡ some (mac key (covered (print (ksm-reading rcv org keys idk1 idk2 second-idk1 second-idk2 vector edk ctp key))))
+  pub ksm-mac : (rcv org : Text) (k : Ksm) (key : ℕ) → legal (ksm-reading rcv org k key) ≡ true
+      → mac-of (ksm-reading rcv org k key .body) ≡ some (mac key (covered (print (ksm-reading rcv org k key))))
   -- the RSM from MILL to HARBOR: 47 bytes, MAC over 28
   pub mill-to-harbor : (key : ℕ) → length (print (rsm-reading (ascii "HARBOR") (ascii "MILL") key)) ≡ 47
   pub mill-to-harbor-covered : (key : ℕ)
       → length (covered (print (rsm-reading (ascii "HARBOR") (ascii "MILL") key))) ≡ 28
   -- a KSM of 232 bytes: names of 16, both keys marked, IV, EDK, a count of eight digits
   pub longest-ksm : (a b v key : ℕ)
-      → length (print (ksm-reading (ascii "HARBORHARBORHARB") (ascii "MILLMILLMILLMILL")
-      (Two (record { sealed = a; p = true }) (record { sealed = b; p = true }))
-      (ascii "FIRSTKEYFIRSTKEY") (ascii "TOPKEYTOPKEYTOPK") (ascii "OTHERKEYOTHERKEY") (ascii "TOPKEYTOPKEYTOPK")
-      (Plain v) (ascii "840229235959") 99_999_998 key))
+      → length (print (ksm-reading (ascii "HARBORHARBORHARB") (ascii "MILLMILLMILLMILL") (record {
+        first = record { sealed = a; p = true; idk1 = ascii "FIRSTKEYFIRSTKEY"; idk2 = ascii "TOPKEYTOPKEYTOPK" };
+        two = true;
+        second = record { sealed = b; p = true; idk1 = ascii "OTHERKEYOTHERKEY"; idk2 = ascii "TOPKEYTOPKEYTOPK" };
+        vector = Plain v;
+        dated = true;
+        edk = ascii "840229235959";
+        ctp = 99_999_998;
+      }) key))
       ≡ 232

@@ -6,16 +6,17 @@ use Prim.Native.Nat.{ℕ, _-_, _/_, _%_}
 use lib.Dec.{eqb}
 use lib.ListN.{take, drop}
 use Rattle.octets.specs.Text.{Text, ascii, within}
+use Rattle.octets.specs.Part.{bare}
 use Rattle.csm.specs.Format.{maybe-legal, maybe-print}
 use Rattle.csm.specs.Fields.{hex, nonempty, legal-name, field, KD, IV, EDK, CTP, CTR, MAC}
 use Rattle.csm.specs.Message.{Reading}
 use Rattle.csm.specs.Covered.{covered-part}
 use Rattle.keying.specs.Mac.{mac}
-use Rattle.writer.specs.declared.Keys.{Keys}
-use Rattle.writer.specs.declared.Vector.{Vector}
+use Rattle.writer.specs.declared.Key.{Key}
 use Rattle.messages.specs.declared.Counts.{Counts}
 use Rattle.messages.specs.declared.Counts.the-variants.{Without, Both}
-use Rattle.writer.specs.Contents.{first, second-of, iv-of}
+use Rattle.messages.specs.declared.Ksm.{Ksm}
+use Rattle.writer.specs.Contents.{there, kd-of, iv-of}
 use Rattle.messages.specs.Readings.{ctp-of, ctr-of}
 
 -- ---- texts
@@ -25,9 +26,10 @@ unfoldable pub counts-text : Counts → Text
 counts-text c = maybe-print (field CTP) (ctp-of c) ++ maybe-print (field CTR) (ctr-of c)
 
 -- IV, EDK and CTP
-unfoldable pub tail-text : Vector → Text → ℕ → Text
-tail-text vector edk ctp =
-    maybe-print (field IV) (iv-of vector) ++ (maybe-print (field EDK) (nonempty edk) ++ field CTP .print ctp)
+unfoldable pub tail-text : Ksm → Text
+tail-text k =
+    maybe-print (field IV) (iv-of (k .vector))
+    ++ (maybe-print (field EDK) (there (k .dated) (k .edk)) ++ field CTP .print (k .ctp))
 
 -- a reading's text up to its MAC
 unfoldable pub unsealed-text : (ℕ → Reading) → Text
@@ -54,14 +56,18 @@ error-legal letters counts =
     within 1 511 letters && (counts-agree counts (eqb (letters / 128 % 2) 1) && counts-legal counts)
 
 -- a KD: its key has 16 hex digits, its names are well-formed or none
-unfoldable pub kd-legal : ℕ → Text → Text → Bool
-kd-legal key idk1 idk2 = hex 16 .legal key && (legal-name (nonempty idk1) && legal-name (nonempty idk2))
+unfoldable pub kd-legal : Key → Bool
+kd-legal key =
+    hex 16 .legal (key .sealed) && (legal-name (nonempty (bare (key .idk1))) && legal-name (nonempty (bare (key .idk2))))
 
 -- one KD or two
-unfoldable pub keys-legal : Keys → Text → Text → Text → Text → Bool
-keys-legal keys idk1 idk2 second-idk1 second-idk2 =
-    kd-legal (first keys .sealed) idk1 idk2 && maybe-legal (field KD) (second-of keys second-idk1 second-idk2)
+unfoldable pub keys-legal : Key → Bool → Key → Bool
+keys-legal first two second = kd-legal first && maybe-legal (field KD) (there two (kd-of second))
 
 -- a date or none, and a count
-unfoldable pub dated-legal : Text → ℕ → Bool
-dated-legal edk ctp = maybe-legal (field EDK) (nonempty edk) && within 1 99_999_999 ctp
+unfoldable pub dated-legal : Bool → Text → ℕ → Bool
+dated-legal dated edk ctp = maybe-legal (field EDK) (there dated edk) && within 1 99_999_999 ctp
+
+-- the parts of a KSM
+unfoldable pub ksm-legal : Ksm → Bool
+ksm-legal k = keys-legal (k .first) (k .two) (k .second) && dated-legal (k .dated) (k .edk) (k .ctp)

@@ -2,15 +2,13 @@
 use mathlib.Core.Option.{Option, none, some}
 use Prim.Native.Nat.{ℕ}
 use Rattle.octets.specs.Text.{Text}
-use Rattle.csm.specs.Fields.{nonempty}
 use Rattle.csm.specs.Message.{Reading, Body, rsi, ksm, rsm, esm}
 use Rattle.csm.specs.Covered.{covered-part}
 use Rattle.keying.specs.Mac.{mac}
-use Rattle.writer.specs.declared.Keys.{Keys}
-use Rattle.writer.specs.declared.Vector.{Vector}
-use Rattle.writer.specs.Contents.{kd-of, first, second-of, iv-of}
+use Rattle.writer.specs.Contents.{there, kd-of, iv-of}
 use Rattle.messages.specs.declared.Counts.{Counts}
 use Rattle.messages.specs.declared.Counts.the-variants.{Without, Both}
+use Rattle.messages.specs.declared.Ksm.{Ksm}
 
 -- a body to a receiver, from an originator
 abbrev pub addressed : Text → Text → Body → Reading
@@ -45,17 +43,16 @@ unfoldable pub esm-reading : Text → Text → ℕ → Counts → Reading
 esm-reading rcv org letters counts =
     addressed rcv org (esm (record { ctp = ctp-of counts; ctr = ctr-of counts; erf = letters; edc = none }))
 
--- KSM: one KD or two, each with its names, IV, EDK (an empty one is none), CTP, MAC
-abbrev pub unsealed-ksm : Text → Text → Keys → Text → Text → Text → Text → Vector → Text → ℕ → ℕ → Reading
-unsealed-ksm rcv org keys idk1 idk2 second-idk1 second-idk2 vector edk ctp m = addressed rcv org (ksm (record {
-  kd = kd-of (first keys) idk1 idk2;
-  second = second-of keys second-idk1 second-idk2;
-  iv = iv-of vector;
-  edk = nonempty edk;
-  ctp = ctp;
+-- KSM: one KD or two, IV, EDK, CTP, MAC
+abbrev pub unsealed-ksm : Text → Text → Ksm → ℕ → Reading
+unsealed-ksm rcv org k m = addressed rcv org (ksm (record {
+  kd = kd-of (k .first);
+  second = there (k .two) (kd-of (k .second));
+  iv = iv-of (k .vector);
+  edk = there (k .dated) (k .edk);
+  ctp = k .ctp;
   mac = m;
 }))
 
-unfoldable pub ksm-reading : Text → Text → Keys → Text → Text → Text → Text → Vector → Text → ℕ → ℕ → Reading
-ksm-reading rcv org keys idk1 idk2 second-idk1 second-idk2 vector edk ctp key =
-    sealed key (unsealed-ksm rcv org keys idk1 idk2 second-idk1 second-idk2 vector edk ctp)
+unfoldable pub ksm-reading : Text → Text → Ksm → ℕ → Reading
+ksm-reading rcv org k key = sealed key (unsealed-ksm rcv org k)

@@ -6,7 +6,8 @@ ghost use Rattle.octets.specs.Text as text;
 ghost use Rattle.csm.specs.Fields as fields;
 ghost use Rattle.messages.specs.Parts as parts;
 use crate::Counts;
-use writer::Keys;
+use crate::Ksm;
+use writer::Key;
 
 // The room for a reply, and two identities.
 pub(crate) fn is_addressed(room: usize, rcv: &[u8], org: &[u8]) -> bool
@@ -73,45 +74,50 @@ fn is_maybe_name(name: &[u8]) -> bool
 }
 
 // A KD: 16 hex digits hold any key of 64 bits, so its names decide.
-fn is_kd(sealed: u64, idk1: &[u8], idk2: &[u8]) -> bool
-    ensures { λ r. ⌜ r ≡ parts.kd-legal sealed (now (idk1 .entry)) (now (idk2 .entry)) ⌝ }
+fn is_kd(key: Key) -> bool
+    ensures { λ r. ⌜ r ≡ parts.kd-legal key ⌝ }
 {
-    if !is_maybe_name(idk1) {
+    let idk1 = key.idk1;
+    let idk2 = key.idk2;
+    if !is_maybe_name(octets::bare(&idk1)) {
         return false;
     }
-    is_maybe_name(idk2)
+    is_maybe_name(octets::bare(&idk2))
 }
 
 // One KD or two.
-pub(crate) fn are_keys(
-    keys: Keys,
-    idk1: &[u8],
-    idk2: &[u8],
-    second_idk1: &[u8],
-    second_idk2: &[u8],
-) -> bool
-    ensures { λ r. ⌜ r ≡ parts.keys-legal keys (now (idk1 .entry)) (now (idk2 .entry)) (now («second_idk1» .entry)) (now («second_idk2» .entry)) ⌝ }
+fn are_keys(first: Key, two: bool, second: Key) -> bool
+    ensures { λ r. ⌜ r ≡ parts.keys-legal first two second ⌝ }
 {
-    match keys {
-        Keys::One(key) => is_kd(key.sealed, idk1, idk2),
-        Keys::Two(key, other) => {
-            if !is_kd(key.sealed, idk1, idk2) {
-                return false;
-            }
-            is_kd(other.sealed, second_idk1, second_idk2)
-        }
+    if !is_kd(first) {
+        return false;
     }
+    if two {
+        return is_kd(second);
+    }
+    true
 }
 
 // A date or none, and a count.
-pub(crate) fn is_dated(edk: &[u8], ctp: u64) -> bool
-    ensures { λ r. ⌜ r ≡ parts.dated-legal (now (edk .entry)) ctp ⌝ }
+fn is_dated(dated: bool, edk: &[u8], ctp: u64) -> bool
+    ensures { λ r. ⌜ r ≡ parts.dated-legal dated (now (edk .entry)) ctp ⌝ }
 {
     if !is_count(ctp) {
         return false;
     }
-    if edk.len() == 0 {
-        return true;
+    if dated {
+        return octets::is_run(edk, 0, 12, 12);
     }
-    octets::is_run(edk, 0, 12, 12)
+    true
+}
+
+// The parts of a KSM.
+pub(crate) fn is_ksm(ksm: Ksm) -> bool
+    ensures { λ r. ⌜ r ≡ parts.ksm-legal ksm ⌝ }
+{
+    let edk = ksm.edk;
+    if !are_keys(ksm.first, ksm.two, ksm.second) {
+        return false;
+    }
+    is_dated(ksm.dated, &edk, ksm.ctp)
 }

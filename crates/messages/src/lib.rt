@@ -2,7 +2,7 @@
 ghost use mathlib.Core.Path.{_≡_};
 ghost use Rattle.messages.specs.Readings as readings;
 ghost use Rattle.messages.specs.Answers as answers;
-use writer::Keys;
+use writer::Key;
 use writer::Vector;
 
 mod legal;
@@ -69,45 +69,27 @@ pub fn write_esm(reply: &mut [u8], rcv: &[u8], org: &[u8], letters: u64, counts:
     Written::Length(whole::put_esm(reply, rcv, org, letters, counts))
 }
 
-// A KSM of one data key or two, with their names, IV, date and count; its MAC under mac_key. An empty name or date is none.
-pub fn write_ksm(
-    reply: &mut [u8],
-    rcv: &[u8],
-    org: &[u8],
-    keys: Keys,
-    idk1: &[u8],
-    idk2: &[u8],
-    second_idk1: &[u8],
-    second_idk2: &[u8],
-    vector: Vector,
-    edk: &[u8],
-    ctp: u64,
-    mac_key: u64,
-) -> Written
-    ensures { λ r. ⌜ r ≡ answers.answer (readings.ksm-reading (now (rcv .entry)) (now (org .entry)) keys (now (idk1 .entry)) (now (idk2 .entry)) (now («second_idk1» .entry)) (now («second_idk2» .entry)) vector (now (edk .entry)) ctp «mac_key») (now (reply .entry)) ⌝ }
-    ensures { λ r. ⌜ now (reply .exit) ≡ answers.buffer (readings.ksm-reading (now (rcv .entry)) (now (org .entry)) keys (now (idk1 .entry)) (now (idk2 .entry)) (now («second_idk1» .entry)) (now («second_idk2» .entry)) vector (now (edk .entry)) ctp «mac_key») (now (reply .entry)) ⌝ }
+// What a KSM says: its data key, the second one if there are two, the IV, the date if there is one, and the count.
+pub struct Ksm {
+    pub first: Key,
+    pub two: bool,
+    pub second: Key,
+    pub vector: Vector,
+    pub dated: bool,
+    pub edk: [u8; 12],
+    pub ctp: u64,
+}
+
+// A KSM, its MAC under mac_key.
+pub fn write_ksm(reply: &mut [u8], rcv: &[u8], org: &[u8], ksm: Ksm, mac_key: u64) -> Written
+    ensures { λ r. ⌜ r ≡ answers.answer (readings.ksm-reading (now (rcv .entry)) (now (org .entry)) ksm «mac_key») (now (reply .entry)) ⌝ }
+    ensures { λ r. ⌜ now (reply .exit) ≡ answers.buffer (readings.ksm-reading (now (rcv .entry)) (now (org .entry)) ksm «mac_key») (now (reply .entry)) ⌝ }
 {
     if !legal::is_addressed(reply.len(), rcv, org) {
         return Written::Nothing;
     }
-    if !legal::are_keys(keys, idk1, idk2, second_idk1, second_idk2) {
+    if !legal::is_ksm(ksm) {
         return Written::Nothing;
     }
-    if !legal::is_dated(edk, ctp) {
-        return Written::Nothing;
-    }
-    Written::Length(whole::put_ksm(
-        reply,
-        rcv,
-        org,
-        keys,
-        idk1,
-        idk2,
-        second_idk1,
-        second_idk2,
-        vector,
-        edk,
-        ctp,
-        mac_key,
-    ))
+    Written::Length(whole::put_ksm(reply, rcv, org, ksm, mac_key))
 }

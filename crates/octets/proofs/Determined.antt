@@ -23,17 +23,20 @@ until κs a x y v w p q = (alike p q, refl)
 pub bare : One-seen fn.bare.ended (λ κs. now) fn.bare.Reads.Post
 bare κs a x y v w p q = (alike p q, refl)
 
+pub part : One-seen fn.part.ended (λ κs. now) fn.part.Reads.Post
+part κs a x y v w p q = (alike p q, refl)
+
 pub copy : One-outcome fn.copy.ended fn.copy.Reads.Post
-copy κs a x y v w p q = (alike (p .1) (q .1), alike (p .0) (q .0) also refl)
+copy κs a x y v w p q = (alike (p .count) (q .count), alike (p .text) (q .text) also refl)
 
 pub fill : One-outcome fn.fill.ended fn.fill.Reads.Post
-fill κs a x y v w p q = (alike (p .1) (q .1), alike (p .0) (q .0) also refl)
+fill κs a x y v w p q = (alike (p .count) (q .count), alike (p .text) (q .text) also refl)
 
 pub number : One-outcome fn.number.ended fn.number.Reads.Post
 number κs a x y v w p q = (alike p q, refl)
 
 pub put-number : One-outcome fn.put_number.ended fn.put_number.Reads.Post
-put-number κs a x y v w p q = (alike (p .1) (q .1), alike (p .0) (q .0) also refl)
+put-number κs a x y v w p q = (alike (p .count) (q .count), alike (p .text) (q .text) also refl)
 
 pub then : One-outcome fn.then.ended fn.then.Reads.Post
 then κs a x y v w p q = (alike p q, refl)

@@ -2,6 +2,8 @@ pub mod Comparing
 pub mod Parting
 pub mod Writing
 pub mod Numbers
+pub mod Parts
+pub mod Codecs
 pub mod Firsts
 pub mod Alike
 pub mod Determined

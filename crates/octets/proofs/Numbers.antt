@@ -2,7 +2,7 @@
 use mathlib.Core.Path.{_≡_, refl, sym, ap, _∙_}
 use mathlib.Core.Bool.{true}
 use mathlib.Core.List.{[], _∷_, _++_}
-use Prim.Native.Nat.{ℕ, zero, suc, _+_, _*_, _/_, _%_, _^_, _≤_, _<_, min}
+use Prim.Native.Nat.{ℕ, zero, suc, _+_, _*_, _/_, _%_, _^_, _≤_, _<_}
 use native.Mathlib.Nat.{pow-suc, pow-succ', one-le-pow, pow-le-pow-right, mod-lt, mod-eq-of-lt, mod-one}
 use native.Mathlib.Nat.{div-one, div-eq-of-lt, div-div-eq-div-mul, mul-assoc, add-mul, zero-add}
 use native.Mathlib.Nat.{le-of-suc-le-suc, not-suc-le-zero, lt-of-lt-of-le}
@@ -17,9 +17,7 @@ use borrow.Author.Tests.{lt-ltb, ltb-true}
 use Rattle.octets.specs.Text.{Text}
 use Rattle.octets.specs.Part.{all-octets}
 use Rattle.octets.specs.Number.{number-after, number, bytes, copies}
-use Rattle.octets.specs.Wrote.{Wrote, over}
 use Rattle.octets.proofs.Comparing.{both, all-append, octets-at}
-use Rattle.octets.proofs.Writing.{wrote-sized}
 
 power-positive : (k : ℕ) → zero < 256 ^ k
 power-positive k = one-le-pow k 256 (omega arith)
@@ -164,15 +162,3 @@ pub copies-at : (k b i : ℕ) → i < k → getD (copies k b) i 0 ≡ b
 copies-at zero b i h = absurd (not-suc-le-zero h)
 copies-at (suc k) b zero h = refl
 copies-at (suc k) b (suc i) h = copies-at k b i (le-of-suc-le-suc h)
-
--- ---- what `put_number` and `fill` leave, where there is room
-
-pub wrote-bytes : (k x : ℕ) (l : Text) {l₁ : Text} {n : ℕ} → k ≤ length l → l₁ ≡ over (bytes k x) l
-    → n ≡ min k (length l)
-    → Wrote (bytes k x) l l₁ n
-wrote-bytes k x l h e c = wrote-sized (bytes k x) l k (length-bytes k x) h e c
-
-pub wrote-copies : (k b : ℕ) (l : Text) {l₁ : Text} {n : ℕ} → k ≤ length l → l₁ ≡ over (copies k b) l
-    → n ≡ min k (length l)
-    → Wrote (copies k b) l l₁ n
-wrote-copies k b l h e c = wrote-sized (copies k b) l k (length-copies k b) h e c

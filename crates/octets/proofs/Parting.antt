@@ -2,15 +2,16 @@
 use mathlib.Core.Path.{_≡_, refl, ap}
 use mathlib.Core.Bool.{Bool, true, false, not, cond}
 use mathlib.Core.List.{[], _∷_, _++_}
-use Prim.Native.Nat.{ℕ, zero, suc, _+_, _≤_, _<_}
+use Prim.Native.Nat.{ℕ, zero, suc, _+_, _-_, _≤_, _<_}
 use native.Mathlib.Nat.{le-of-suc-le-suc, not-suc-le-zero}
 use native.Mathlib.Omega.{arith}
 use lib.Dec.{eqb}
-use lib.ListN.{length, take, drop, getD}
+use lib.ListN.{length, take, drop, getD, length-take, length-drop}
 use lib.Seq.{take-all}
 use borrow.Author.Tests.{eq-eqb, ne-eqb, eqb-true, not-true}
 use Rattle.octets.specs.Text.{Text, blank, free}
-use Rattle.octets.specs.Part.{before, bare}
+use Rattle.octets.specs.Part.{before, bare, part}
+use Rattle.octets.specs.declared.Span.{Span}
 use Rattle.octets.proofs.Comparing.{drop-step, drop-end, both}
 
 pub before-fits : (x : ℕ) (s : Text) → before x s ≤ length s
@@ -71,3 +72,13 @@ module _ (x : ℕ) (s : Text) (i : ℕ) where
 -- a text with no blank is its own bare part
 pub bare-free : (s : Text) → free blank s ≡ true → bare s ≡ s
 bare-free s e = take-all (before blank s) s (omega (arith, before-free blank s e))
+
+-- of nothing nothing is taken
+pub take-empty : (n : ℕ) → _≡_ {A = Text} (take n []) []
+take-empty zero = refl
+take-empty (suc n) = refl
+
+-- a part lies within its text
+pub part-length : (s : Text) (p : Span) → length (part s p) ≤ length s - p .at
+unfolding part
+part-length s p = omega (arith, length-take (p .length) (drop (p .at) s), length-drop (p .at) s)

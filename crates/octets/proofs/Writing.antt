@@ -1,73 +1,14 @@
--- Laws of writing: one writer after the other, and what is laid over the front of a buffer.
+-- Laws of writing: what is laid over the front of a buffer, byte by byte, and one writer after the other.
 use mathlib.Core.Path.{_≡_, refl, sym, ap, _∙_, subst}
-use mathlib.Core.List.{[], _∷_, _++_, append-assoc, append-nil}
+use mathlib.Core.List.{[], _∷_, _++_, append-nil}
 use Prim.Native.Nat.{ℕ, zero, suc, _+_, _-_, _≤_, _<_, min}
 use native.Mathlib.Nat.{le-of-suc-le-suc, not-suc-le-zero}
 use native.Mathlib.Numerals.{add-one}
 use native.Mathlib.Omega.{arith}
 use lib.ListN.{length, take, drop, getD, set, length-append, length-set, length-take, length-drop, drop-of-length-le}
-use lib.Seq.{set-split, take-all, drop-drop, drop-at, take-at}
+use lib.Seq.{take-all}
 use Rattle.octets.specs.Text.{Text}
 use Rattle.octets.specs.Wrote.{Wrote, over}
-
--- ---- one writer after the other
-
-module _ {x l l₁ : Text} {n : ℕ} (p : Wrote x l l₁ n) where
-  front : take n l₁ ≡ x
-  front = ap (take n) (p .text) ∙ take-at x (drop (length x) l) n (sym (p .count))
-
-  behind : drop n l₁ ≡ drop (length x) l
-  behind = ap (drop n) (p .text) ∙ drop-at x (drop (length x) l) n (sym (p .count))
-
--- x was written to l, giving l₁; then y to what is left of l₁ after n bytes, giving e: the whole is x and then y
-pub wrote-then : {x y l l₁ e : Text} {n m : ℕ} → Wrote x l l₁ n → Wrote y (drop n l₁) e m
-    → Wrote (x ++ y) l (take n l₁ ++ e) (n + m)
-wrote-then {x} {y} {l} {l₁} {e} {n} {m} p q =
-    let f : drop (length y) (drop n l₁) ≡ drop (length (x ++ y)) l =
-    ap (drop (length y)) (behind p) ∙ drop-drop (length y) (length x) l
-    ∙ ap (λ (k : ℕ). drop k l) (sym (length-append x y)) in
-    record {
-      count = omega (arith, p .count, q .count, length-append x y);
-      text = ap (λ (r : Text). r ++ e) (front p) ∙ ap (λ (r : Text). x ++ r) (q .text ∙ ap (λ (r : Text). y ++ r) f)
-          ∙ sym (append-assoc x y (drop (length (x ++ y)) l));
-    }
-
--- the same, where y was written through `&mut rest[n..]`: what was lent, and what the slice is when it is back
-pub wrote-rest : {x y l l₁ e : Text} {n m : ℕ} → Wrote x l l₁ n → Wrote y (take (length l₁ - n) (drop n l₁)) e m
-    → Wrote (x ++ y) l (take n l₁ ++ (e ++ drop (length l₁ - n) (drop n l₁))) (n + m)
-wrote-rest {x} {y} {l} {l₁} {e} {n} {m} p q =
-    let k : length (drop n l₁) ≤ length l₁ - n = omega (arith, length-drop n l₁) in
-    let a : take (length l₁ - n) (drop n l₁) ≡ drop n l₁ = take-all (length l₁ - n) (drop n l₁) k in
-    let b : e ++ drop (length l₁ - n) (drop n l₁) ≡ e =
-    ap (λ (r : Text). e ++ r) (drop-of-length-le (drop n l₁) k) ∙ append-nil e in
-    subst (λ (r : Text). Wrote (x ++ y) l (take n l₁ ++ r) (n + m)) (sym b)
-    (wrote-then p (subst (λ (r : Text). Wrote y r e m) a q))
-
--- the same text, grouped otherwise
-pub wrote-as : {x y l l₁ : Text} {n : ℕ} → x ≡ y → Wrote x l l₁ n → Wrote y l l₁ n
-wrote-as {l} {l₁} {n} e p = subst (λ (t : Text). Wrote t l l₁ n) e p
-
--- one byte more, stored where the text ends
-pub wrote-byte : {x l l₁ : Text} {n : ℕ} (v : ℕ) → Wrote x l l₁ n → n < length l₁
-    → Wrote (x ++ v ∷ []) l (set l₁ n v) (n + 1)
-wrote-byte {x} {l} {l₁} {n} v p h =
-    let k : length (x ++ v ∷ []) ≡ length x + 1 = length-append x (v ∷ []) in
-    let f : drop (suc n) l₁ ≡ drop (length (x ++ v ∷ [])) l =
-    ap (λ (j : ℕ). drop j l₁) (sym (add-one n)) ∙ sym (drop-drop 1 n l₁) ∙ ap (drop 1) (behind p)
-    ∙ drop-drop 1 (length x) l ∙ ap (λ (j : ℕ). drop j l) (sym k) in
-    record {
-      count = omega (arith, p .count, k);
-      text = set-split l₁ n v h ∙ ap (λ (r : Text). r ++ v ∷ drop (suc n) l₁) (front p)
-          ∙ ap (λ (r : Text). x ++ v ∷ r) f ∙ sym (append-assoc x (v ∷ []) (drop (length (x ++ v ∷ [])) l));
-    }
-
-pub wrote-nothing : (l : Text) → Wrote [] l l 0
-wrote-nothing l = record { count = refl; text = refl }
-
--- a buffer that had room is as long as before
-pub wrote-length : {x l l₁ : Text} {n : ℕ} → Wrote x l l₁ n → length x ≤ length l → length l₁ ≡ length l
-wrote-length {x} {l} {l₁} {n} p h =
-    ap length (p .text) ∙ length-append x (drop (length x) l) ∙ omega (arith, length-drop (length x) l)
 
 -- ---- over the front
 
@@ -92,6 +33,30 @@ over-full [] [] h = refl
 over-full [] (y ∷ l) h = absurd (not-suc-le-zero h)
 over-full (x ∷ t) [] h = refl
 over-full (x ∷ t) (y ∷ l) h = ap (λ (r : Text). x ∷ r) (over-full t l (le-of-suc-le-suc h))
+
+-- one of the buffer's length is all that is left
+pub over-whole : (t l : Text) → length t ≡ length l → over t l ≡ t
+over-whole t l h = over-full t l (omega arith) ∙ take-all (length l) t (omega arith)
+
+-- the first n bytes where they stand
+over-front : (n : ℕ) (l : Text) → over (take n l) l ≡ l
+over-front zero l = refl
+over-front (suc n) [] = refl
+over-front (suc n) (x ∷ l) = ap (λ (t : Text). x ∷ t) (over-front n l)
+
+-- y over what is left behind x
+over-then : (x y l : Text) (n : ℕ) → n ≡ min (length x) (length l)
+    → take n (over x l) ++ over y (drop n (over x l)) ≡ over (x ++ y) l
+over-then [] y l n e =
+    let z : n ≡ 0 = omega arith in
+    ap (λ (k : ℕ). take k l ++ over y (drop k l)) z
+over-then (a ∷ x) y [] n e =
+    let z : n ≡ 0 = omega arith in
+    ap (λ (k : ℕ). take k [] ++ over y (drop k [])) z ∙ over-none y
+over-then (a ∷ x) y (b ∷ l) zero e = absurd (omega arith)
+over-then (a ∷ x) y (b ∷ l) (suc n) e = ap (λ (t : Text). a ∷ t) (over-then x y l n (omega arith))
+
+-- ---- byte by byte
 
 store : (t l : Text) (i : ℕ) → i < length t → i < length l
     → set (over (take i t) l) i (getD t i 0) ≡ over (take (suc i) t) l
@@ -128,43 +93,49 @@ laying-more {t} {l} {l₁} {n} {i} {v} p h e =
       laid = ap (λ (m : Text). set m i v) (p .laid) ∙ rw (add-one i, e) (store t l i (omega arith) (omega arith));
     }
 
-pub laying-all : {t l l₁ : Text} {n i : ℕ} → Laying t l l₁ n i → n ≤ i
-    → (l₁ ≡ over t l) × (i ≡ min (length t) (length l))
+pub laying-all : {t l l₁ : Text} {n i : ℕ} → Laying t l l₁ n i → n ≤ i → Wrote t l l₁ i
 laying-all {t} {l} {l₁} {n} {i} p h =
     let r : n ≡ min (length t) (length l) = p .room in
     let w : i ≤ n = p .within in
-    (p .laid ∙ over-all t l i (omega arith), omega arith)
+    record { text = p .laid ∙ over-all t l i (omega arith); count = omega arith }
 
--- a copy to the front, byte by byte
-pub copy-step : (t l : Text) (i : ℕ) → i < length t → i < length l
-    → set (take i t ++ drop i l) i (getD t i 0) ≡ take (i + 1) t ++ drop (i + 1) l
-copy-step t l i h k = rw (add-one i) (go t l i h k)
-  where
-    go : (t l : Text) (i : ℕ) → i < length t → i < length l
-        → set (take i t ++ drop i l) i (getD t i 0) ≡ take (suc i) t ++ drop (suc i) l
-    go [] l i h k = absurd (not-suc-le-zero h)
-    go (x ∷ t) [] i h k = absurd (not-suc-le-zero k)
-    go (x ∷ t) (y ∷ l) zero h k = refl
-    go (x ∷ t) (y ∷ l) (suc i) h k = ap (λ (r : Text). x ∷ r) (go t l i (le-of-suc-le-suc h) (le-of-suc-le-suc k))
+-- ---- one writer after the other
 
--- what was laid over l and fits was written
-pub wrote-over : (t l : Text) {l₁ : Text} {n : ℕ} → length t ≤ length l → l₁ ≡ over t l
-    → n ≡ min (length t) (length l) → Wrote t l l₁ n
-wrote-over t l h e c = record { count = omega arith; text = e ∙ over-fits t l h }
+-- what is lent by `&s[n..]`
+pub rest-is : (n : ℕ) (s : Text) → take (length s - n) (drop n s) ≡ drop n s
+rest-is n s = take-all (length s - n) (drop n s) (omega (arith, length-drop n s))
 
--- where t is k bytes long
-pub wrote-sized : (t l : Text) {l₁ : Text} {n : ℕ} (k : ℕ) → length t ≡ k → k ≤ length l → l₁ ≡ over t l
-    → n ≡ min k (length l)
-    → Wrote t l l₁ n
-wrote-sized t l k s h e c = wrote-over t l (omega arith) e (omega arith)
-
--- the same, for y of k bytes laid over what is left behind the n bytes of x, through `&mut rest[n..]`
-pub wrote-over-rest : {x l l₁ e : Text} {n m : ℕ} (y : Text) (k : ℕ) → length y ≡ k → Wrote x l l₁ n
-    → length x + k ≤ length l
-    → e ≡ over y (take (length l₁ - n) (drop n l₁)) → m ≡ min k (length (take (length l₁ - n) (drop n l₁)))
+-- x was written to l, giving l₁; then y through `&mut rest[n..]` to what is left behind: the slice when it is back
+pub wrote-rest : {x y l l₁ e : Text} {n m : ℕ} → Wrote x l l₁ n → Wrote y (take (length l₁ - n) (drop n l₁)) e m
     → Wrote (x ++ y) l (take n l₁ ++ (e ++ drop (length l₁ - n) (drop n l₁))) (n + m)
-wrote-over-rest {x} {l} {l₁} {e} {n} {m} y k s p h q c =
-    let i : length l₁ ≡ length l = wrote-length p (omega arith) in
-    let j = length-take (length l₁ - n) (drop n l₁) in
-    let room : k ≤ length (take (length l₁ - n) (drop n l₁)) = omega (arith, p .count, j, length-drop n l₁) in
-    wrote-rest p (wrote-sized y (take (length l₁ - n) (drop n l₁)) k s room q c)
+wrote-rest {x} {y} {l} {l₁} {e} {n} {m} p q =
+    let c = p .count in
+    let d = q .count in
+    let a = rest-is n l₁ in
+    let s : length l₁ ≡ length l = ap length (p .text) ∙ length-over x l in
+    let k : length (drop n l₁) ≤ length l₁ - n = omega (arith, length-drop n l₁) in
+    let b : e ++ drop (length l₁ - n) (drop n l₁) ≡ over y (drop n l₁) =
+    ap (λ (r : Text). e ++ r) (drop-of-length-le (drop n l₁) k) ∙ append-nil e ∙ q .text ∙ ap (over y) a in
+    record {
+      text = ap (λ (r : Text). take n l₁ ++ r) b
+          ∙ ap (λ (r : Text). take n r ++ over y (drop n r)) (p .text) ∙ over-then x y l n c;
+      count = omega (arith, ap length a, length-drop n l₁, length-append x y);
+    }
+
+-- the same text, grouped otherwise
+pub wrote-as : {x y l l₁ : Text} {n : ℕ} → x ≡ y → Wrote x l l₁ n → Wrote y l l₁ n
+wrote-as {l} {l₁} {n} e p = subst (λ (t : Text). Wrote t l l₁ n) e p
+
+pub wrote-nothing : (l : Text) → Wrote [] l l 0
+wrote-nothing l = record { text = refl; count = omega arith }
+
+-- the first n bytes, which stand there
+pub wrote-front : (n : ℕ) (l : Text) → n ≤ length l → Wrote (take n l) l l n
+wrote-front n l h = record { text = sym (over-front n l); count = omega (arith, length-take n l) }
+
+-- where there was room, the whole text and what was behind it
+pub wrote-fits : {t l l₁ : Text} {n : ℕ} → Wrote t l l₁ n → length t ≤ length l
+    → (l₁ ≡ t ++ drop (length t) l) × (n ≡ length t)
+wrote-fits {t} {l} {l₁} {n} p h =
+    let c = p .count in
+    (p .text ∙ over-fits t l h, omega arith)

@@ -2,11 +2,11 @@
 // holds.
 ghost use mathlib.Core.Path.{_≡_};
 ghost use Prim.Native.Nat.{_+_, _/_, _%_, _^_, min};
-ghost use lib.ListN.{length, drop};
+ghost use lib.ListN.{drop};
 ghost use Rattle.octets.specs.Text as text;
 ghost use Rattle.octets.specs.Part as part;
 ghost use Rattle.octets.specs.Number as numbers;
-ghost use Rattle.octets.specs.Wrote as wrote;
+ghost use Rattle.octets.specs.Wrote.{Wrote};
 ghost use Rattle.octets.specs.First as first;
 
 // Whether the two are one text.
@@ -99,6 +99,28 @@ pub fn until(s: &[u8], at: usize, x: u8) -> usize
     i
 }
 
+// Where a part of a text stands, and how long it is.
+pub struct Span {
+    pub at: usize,
+    pub length: usize,
+}
+
+// The part of s that stands there, as far as s reaches.
+pub fn part(s: &[u8], span: Span) -> &[u8]
+    ensures { λ r. ⌜ now r ≡ part.part (now (s .entry)) span ⌝ }
+{
+    let at = span.at;
+    if s.len() <= at {
+        return &s[..0];
+    }
+    let rest = &s[at..];
+    let length = span.length;
+    if rest.len() <= length {
+        return rest;
+    }
+    &rest[..length]
+}
+
 // What stands in s before the first blank.
 pub fn bare(s: &[u8]) -> &[u8]
     ensures { λ r. ⌜ now r ≡ part.bare (now (s .entry)) ⌝ }
@@ -119,8 +141,7 @@ fn smaller(a: usize, b: usize) -> usize
 
 // As much of src as there is room for, over the front of rest; how many bytes that is.
 pub fn copy(rest: &mut [u8], src: &[u8]) -> usize
-    ensures { λ r. ⌜ now (rest .exit) ≡ wrote.over (now (src .entry)) (now (rest .entry)) ⌝ }
-    ensures { λ r. ⌜ r ≡ min (length (now (src .entry))) (length (now (rest .entry))) ⌝ }
+    ensures { λ r. ⌜ Wrote (now (src .entry)) (now (rest .entry)) (now (rest .exit)) r ⌝ }
 {
     let n = smaller(src.len(), rest.len());
     let mut copied = 0;
@@ -133,8 +154,7 @@ pub fn copy(rest: &mut [u8], src: &[u8]) -> usize
 
 // The byte b, k times or as often as there is room for, over the front of rest; how many bytes that is.
 pub fn fill(rest: &mut [u8], k: usize, b: u8) -> usize
-    ensures { λ r. ⌜ now (rest .exit) ≡ wrote.over (numbers.copies k b) (now (rest .entry)) ⌝ }
-    ensures { λ r. ⌜ r ≡ min k (length (now (rest .entry))) ⌝ }
+    ensures { λ r. ⌜ Wrote (numbers.copies k b) (now (rest .entry)) (now (rest .exit)) r ⌝ }
 {
     let n = smaller(k, rest.len());
     let mut filled = 0;
@@ -171,8 +191,7 @@ fn byte_at(x: u64, place: usize) -> u8
 
 // The k low bytes of x, the high one first, as many as there is room for, over the front of rest; how many that is.
 pub fn put_number(rest: &mut [u8], k: usize, x: u64) -> usize
-    ensures { λ r. ⌜ now (rest .exit) ≡ wrote.over (numbers.bytes k x) (now (rest .entry)) ⌝ }
-    ensures { λ r. ⌜ r ≡ min k (length (now (rest .entry))) ⌝ }
+    ensures { λ r. ⌜ Wrote (numbers.bytes k x) (now (rest .entry)) (now (rest .exit)) r ⌝ }
 {
     let n = smaller(k, rest.len());
     let mut place = k;

@@ -5,38 +5,19 @@ use native.Mathlib.Omega.{arith}
 use Rattle.keying.specs.declared.Top.{Top}
 use Rattle.keying.specs.declared.Top.the-variants.{Single, Pair}
 use Rattle.partner.specs.declared.Name.{Name}
-use Rattle.partner.specs.declared.KeySet.{KeySet}
-use Rattle.partner.specs.declared.Entry.{Entry}
+use Rattle.partner.specs.declared.Sending.{Sending}
 use Rattle.partner.specs.Entry.{top-of}
-use Rattle.partner.specs.Changes.{sending, receiving, loaded, accepted, issued, settled, given-up, failed}
-use Rattle.partner.specs.Claims.{Same-receiving, Same-sending, Loads, Breaks}
+use Rattle.partner.specs.Changes.{loaded, accepted, issued, settled, given-up, failed}
+use Rattle.partner.specs.Claims.{Loads, Breaks}
 use Rattle.partner.specs.Claims.{Claims}
 use Rattle.partner.proofs.Naming.{bare-filled, filled-filled, filled-bare, blanks-unnamed}
 use Rattle.partner.proofs.Ruling.{broken-first, legal-passed}
 use Rattle.partner.proofs.Keeping.{loaded-legal, accepted-legal, issued-legal, settled-legal, given-up-legal}
 use Rattle.partner.proofs.Keeping.{failed-legal, risen-below, one-formed, two-formed}
 use Rattle.partner.proofs.Tabling as tables
-use Rattle.partner.proofs.Fielding.{length-entry, entry-back}
-use Rattle.partner.proofs.Joining.{read-written, entry-held, octets-entry}
+use Rattle.partner.proofs.Storing.{length-entry, octets-entry, entry-back, entry-held, read-written}
 
 -- ---- each change, field by field
-
-sent-anew : (e : Entry) (n p : ℕ) (keys : KeySet) → Same-receiving e (sending e n p keys)
-unfolding sending
-sent-anew e n p keys = record {
-  partner = record { identity = refl; name = refl; form = refl; left = refl; right = refl };
-  expected = refl;
-  incoming = refl;
-}
-
-received-anew : (e : Entry) (n : ℕ) (keys : KeySet) → Same-sending e (receiving e n keys)
-unfolding receiving
-received-anew e n keys = record {
-  partner = record { identity = refl; name = refl; form = refl; left = refl; right = refl };
-  next = refl;
-  phase = refl;
-  outgoing = refl;
-}
 
 loads : (identity name : Name) (top : Top) → Loads identity name top (loaded identity name top)
 unfolding loaded top-of
@@ -61,29 +42,20 @@ loads identity name (Pair l r) = record {
   incoming = refl;
 }
 
-breaks : (e : Entry) (n x : ℕ) → max (e .next) x ≡ n → Breaks e n (failed e x)
-unfolding failed sending
-breaks e n x h = record { next = h; phase = refl; outgoing = refl; receiving = sent-anew e _ _ _ }
+breaks : (s : Sending) (n x : ℕ) → max (s .next) x ≡ n → Breaks n (failed s x)
+unfolding failed
+breaks s n x h = record { next = h; phase = refl; outgoing = refl }
 
 pub claims : Claims
-unfolding accepted issued settled given-up sending receiving
+unfolding accepted issued settled given-up
 claims = record {
   loaded-so = loads;
-  accepted-so = λ e n keys h. record {
-    expected = risen-below n h;
-    incoming = refl;
-    sending = received-anew e _ _;
-  };
-  issued-so = λ e keys h. record {
-    next = risen-below (e .next) h;
-    phase = refl;
-    outgoing = refl;
-    receiving = sent-anew e _ _ _;
-  };
-  settled-so = λ e. record { next = refl; phase = refl; outgoing = refl; receiving = sent-anew e _ _ _ };
-  given-up-so = λ e. record { next = refl; phase = refl; outgoing = refl; receiving = sent-anew e _ _ _ };
-  failed-below = λ e x h. breaks e (e .next) x (omega arith);
-  failed-above = λ e x h. breaks e x x (omega arith);
+  accepted-so = λ n keys h. record { expected = risen-below n h; incoming = refl };
+  issued-so = λ s keys h. record { next = risen-below (s .next) h; phase = refl; outgoing = refl };
+  settled-so = λ s. record { next = refl; phase = refl; outgoing = refl };
+  given-up-so = λ s. record { next = refl; phase = refl; outgoing = refl };
+  failed-below = λ s x h. breaks s (s .next) x (omega arith);
+  failed-above = λ s x h. breaks s x x (omega arith);
   broken-exactly = broken-first;
   legal-exactly = legal-passed;
   table-broken-exactly = tables.broken-first;

@@ -45,6 +45,12 @@ two-keys κs a x y v w p q = (alike p q, refl)
 pub empty : One-outcome fn.empty.ended fn.empty.Reads.Post
 empty κs a x y v w p q = (alike p q, refl)
 
+pub with-sending : One-outcome fn.changes.with_sending.ended fn.changes.with_sending.Reads.Post
+with-sending κs a x y v w p q = (alike p q, refl)
+
+pub with-receiving : One-outcome fn.changes.with_receiving.ended fn.changes.with_receiving.Reads.Post
+with-receiving κs a x y v w p q = (alike p q, refl)
+
 pub loaded : One-outcome fn.changes.loaded.ended fn.changes.loaded.Reads.Post
 loaded κs a x y v w p q = (alike p q, refl)
 

@@ -6,8 +6,7 @@ use Rattle.keying.specs.Keys.{odd-top}
 use Rattle.partner.specs.Entry.{empty, filled, top-of, places, keys-in}
 use Rattle.partner.specs.Legal.{is-filled, is-named, set-named, names-formed, is-unused, set-clean, form-clean}
 use Rattle.partner.specs.Legal.{unused-zero, top-odd, counts-right, idle-right, keys-if, outgoing-right, incoming-right, rules, broken, legal}
-use Rattle.partner.specs.Record.{place-bytes, set-bytes, top-bytes, front-bytes, count-bytes, entry-bytes}
-use Rattle.partner.specs.Record.{set-in, entry-in}
+use Rattle.partner.specs.Record.{entry-bytes, entry-in}
 use Rattle.partner.specs.Table.{is-empty, empties, slot-rules, slots-rules}
 use Rattle.partner.specs.Table as tables
 use Rattle.partner.specs.Examples.{Examples}
@@ -18,7 +17,7 @@ unfolding
     number odd odd-byte odd-top empty filled top-of places keys-in
     is-filled is-named set-named names-formed is-unused set-clean form-clean unused-zero top-odd counts-right idle-right
     keys-if outgoing-right incoming-right rules broken legal
-    place-bytes set-bytes top-bytes front-bytes count-bytes entry-bytes set-in entry-in
+    entry-bytes entry-in
     is-empty empties slot-rules slots-rules tables.rules tables.broken
 computes = tt
 

@@ -14,11 +14,13 @@ use Rattle.keying.specs.declared.Top.the-variants.{Single, Pair}
 use Rattle.partner.specs.declared.Name.{Name}
 use Rattle.partner.specs.declared.DataKey.{DataKey}
 use Rattle.partner.specs.declared.KeySet.{KeySet}
+use Rattle.partner.specs.declared.Sending.{Sending}
+use Rattle.partner.specs.declared.Receiving.{Receiving}
 use Rattle.partner.specs.declared.Entry.{Entry}
 use Rattle.partner.specs.Entry.{blanks, filled, name-of, limit, risen, unused, no-keys, one-key, two-keys}
-use Rattle.partner.specs.Changes.{sending, receiving, form-of, left-of, right-of, loaded}
+use Rattle.partner.specs.Changes.{with-sending, with-receiving, form-of, left-of, right-of, loaded}
 use Rattle.partner.specs.Changes.{accepted, issued, settled, given-up, failed}
-use Rattle.partner.specs.Held.{HeldName, HeldKey, HeldSet, Held}
+use Rattle.partner.specs.Held.{HeldName, HeldKey, HeldSet, HeldSending, HeldReceiving, Held}
 use Rattle.partner.proofs.Naming.{length-filled}
 
 -- ---- names and keys
@@ -51,67 +53,44 @@ held-risen n = go n (ltb n limit) refl
     go n true e = let h = ltb-true n limit e in omega arith
     go n false e = omega arith
 
-module _ (e : Entry) (h : Held e) where
-  held-sending : (n phase : ℕ) (set : KeySet) → n < 2 ^ 32 → phase < 2 ^ 8 → HeldSet set → Held (sending e n phase set)
-  unfolding sending
-  held-sending n phase set a b c = record {
-    identity = h .identity;
-    name = h .name;
-    form = h .form;
-    left = h .left;
-    right = h .right;
-    next = a;
-    expected = h .expected;
-    phase = b;
-    outgoing = c;
-    incoming = h .incoming;
-  }
+-- each unit anew
+pub held-accepted : (count : ℕ) (keys : KeySet) → HeldSet keys → HeldReceiving (accepted count keys)
+unfolding accepted
+held-accepted count keys c = record { expected = held-risen count; incoming = c }
 
-  pub held-accepted : (count : ℕ) (keys : KeySet) → HeldSet keys → Held (accepted e count keys)
-  unfolding accepted receiving
-  held-accepted count keys c = record {
-    identity = h .identity;
-    name = h .name;
-    form = h .form;
-    left = h .left;
-    right = h .right;
-    next = h .next;
-    expected = held-risen count;
-    phase = h .phase;
-    outgoing = h .outgoing;
-    incoming = c;
-  }
+pub held-issued : (s : Sending) (keys : KeySet) → HeldSet keys → HeldSending (issued s keys)
+unfolding issued
+held-issued s keys c = record { next = held-risen (s .next); phase = omega arith; outgoing = c }
 
-  pub held-issued : (keys : KeySet) → HeldSet keys → Held (issued e keys)
-  unfolding issued
-  held-issued keys c = held-sending (risen (e .next)) 1 keys (held-risen (e .next)) (omega arith) c
+pub held-settled : (s : Sending) → HeldSending s → HeldSending (settled s)
+unfolding settled
+held-settled s h = record { next = h .next; phase = omega arith; outgoing = h .outgoing }
 
-  pub held-settled : Held (settled e)
-  unfolding settled
-  held-settled = held-sending (e .next) 2 (e .outgoing) (h .next) (omega arith) (h .outgoing)
+pub held-given-up : (s : Sending) → HeldSending s → HeldSending (given-up s)
+unfolding given-up
+held-given-up s h = record { next = h .next; phase = omega arith; outgoing = held-none }
 
-  pub held-given-up : Held (given-up e)
-  unfolding given-up
-  held-given-up = held-sending (e .next) 3 no-keys (h .next) (omega arith) held-none
+pub held-failed : (s : Sending) (x : ℕ) → HeldSending s → x < 2 ^ 32 → HeldSending (failed s x)
+unfolding failed
+held-failed s x h l = record { next = omega (arith, h .next); phase = omega arith; outgoing = held-none }
 
-  pub held-failed : (x : ℕ) → x < 2 ^ 32 → Held (failed e x)
-  unfolding failed
-  held-failed x l = held-sending (max (e .next) x) 3 no-keys (omega (arith, h .next)) (omega arith) held-none
+-- and the entry with it
+pub held-with-sending : (e : Entry) (s : Sending) → Held e → HeldSending s → Held (with-sending e s)
+held-with-sending e s h g =
+    record { identity = h .identity; top = h .top; sending = g; receiving = h .receiving }
+
+pub held-with-receiving : (e : Entry) (r : Receiving) → Held e → HeldReceiving r → Held (with-receiving e r)
+held-with-receiving e r h g =
+    record { identity = h .identity; top = h .top; sending = h .sending; receiving = g }
 
 pub held-loaded : (identity name : Name) (top : Top) → HeldName identity → HeldName name → left-of top < 2 ^ 64
     → right-of top < 2 ^ 64 → Held (loaded identity name top)
 unfolding loaded
 held-loaded identity name top i n l r = record {
   identity = i;
-  name = n;
-  form = form-fits top;
-  left = l;
-  right = r;
-  next = omega arith;
-  expected = omega arith;
-  phase = omega arith;
-  outgoing = held-none;
-  incoming = held-none;
+  top = record { name = n; form = form-fits top; left = l; right = r };
+  sending = record { next = omega arith; phase = omega arith; outgoing = held-none };
+  receiving = record { expected = omega arith; incoming = held-none };
 }
   where
     form-fits : (top : Top) → form-of top < 2 ^ 8

@@ -14,43 +14,45 @@ use Rattle.keying.specs.Keys.{odd-top}
 use Rattle.partner.specs.declared.Name.{Name}
 use Rattle.partner.specs.declared.DataKey.{DataKey}
 use Rattle.partner.specs.declared.KeySet.{KeySet}
+use Rattle.partner.specs.declared.Sending.{Sending}
 use Rattle.partner.specs.declared.Entry.{Entry}
 use Rattle.partner.specs.Entry.{limit, risen, idle, waiting, confirmed, broken, no-keys, one-key, two-keys, top-of}
 use Rattle.partner.specs.Legal.{exactly, is-filled, is-named, is-unused, set-named, set-clean, keys-formed}
 use Rattle.partner.specs.Legal.{names-formed, form-clean, unused-zero, top-odd}
 use Rattle.partner.specs.Legal.{counts-right, idle-right, keys-if, outgoing-right}
 use Rattle.partner.specs.Legal.{incoming-right, legal, rules as list}
-use Rattle.partner.specs.Changes.{sending, receiving, loaded, accepted, issued, settled, given-up, failed}
+use Rattle.partner.specs.Changes.{with-sending, with-receiving, kept, loaded}
+use Rattle.partner.specs.Changes.{accepted, issued, settled, given-up, failed}
 use Rattle.partner.proofs.Ruling.{legal-kept, kept-legal, _and_}
 
 -- ---- the rules one by one
 
 pub record Rules (e : Entry) : Type 0 where
   pub identity-filled : is-filled (e .identity .bytes) ≡ true
-  pub name-filled : is-filled (e .name .bytes) ≡ true
-  pub outgoing-named : set-named (e .outgoing) ≡ true
-  pub incoming-named : set-named (e .incoming) ≡ true
-  pub form-clean : form-clean e ≡ true
-  pub outgoing-clean : set-clean (e .outgoing) ≡ true
-  pub incoming-clean : set-clean (e .incoming) ≡ true
-  pub top-odd : top-odd e ≡ true
-  pub next-right : within 1 limit (e .next) ≡ true
-  pub expected-right : within 1 limit (e .expected) ≡ true
-  pub idle-right : idle-right e ≡ true
-  pub outgoing-right : outgoing-right e ≡ true
-  pub incoming-right : incoming-right e ≡ true
+  pub name-filled : is-filled (e .top .name .bytes) ≡ true
+  pub outgoing-named : set-named (e .sending .outgoing) ≡ true
+  pub incoming-named : set-named (e .receiving .incoming) ≡ true
+  pub form-clean : form-clean (e .top) ≡ true
+  pub outgoing-clean : set-clean (e .sending .outgoing) ≡ true
+  pub incoming-clean : set-clean (e .receiving .incoming) ≡ true
+  pub top-odd : top-odd (e .top) ≡ true
+  pub next-right : within 1 limit (e .sending .next) ≡ true
+  pub expected-right : within 1 limit (e .receiving .expected) ≡ true
+  pub idle-right : idle-right (e .sending) ≡ true
+  pub outgoing-right : outgoing-right (e .sending) ≡ true
+  pub incoming-right : incoming-right (e .receiving) ≡ true
 
 pub rules : (e : Entry) → legal e ≡ true → Rules e
 unfolding list names-formed unused-zero counts-right
 rules e h =
     let k = legal-kept e h in
-    let names = both _ (set-named (e .incoming)) (not-false (names-formed e) (k .0)) in
-    let m = both _ (set-named (e .outgoing)) (names .0) in
-    let o = both (is-filled (e .identity .bytes)) (is-filled (e .name .bytes)) (m .0) in
-    let unused = both _ (set-clean (e .incoming)) (not-false (unused-zero e) (k .1 .0)) in
-    let v = both (form-clean e) (set-clean (e .outgoing)) (unused .0) in
-    let counts = not-false (counts-right e) (k .1 .1 .1 .0) in
-    let w = both (within 1 limit (e .next)) (within 1 limit (e .expected)) counts in
+    let names = both _ (set-named (e .receiving .incoming)) (not-false (names-formed e) (k .0)) in
+    let m = both _ (set-named (e .sending .outgoing)) (names .0) in
+    let o = both (is-filled (e .identity .bytes)) (is-filled (e .top .name .bytes)) (m .0) in
+    let unused = both _ (set-clean (e .receiving .incoming)) (not-false (unused-zero e) (k .1 .0)) in
+    let v = both (form-clean (e .top)) (set-clean (e .sending .outgoing)) (unused .0) in
+    let counts = not-false (counts-right (e .sending .next) (e .receiving .expected)) (k .1 .1 .1 .0) in
+    let w = both (within 1 limit (e .sending .next)) (within 1 limit (e .receiving .expected)) counts in
     record {
       identity-filled = o .0;
       name-filled = o .1;
@@ -59,12 +61,12 @@ rules e h =
       form-clean = v .0;
       outgoing-clean = v .1;
       incoming-clean = unused .1;
-      top-odd = not-false (top-odd e) (k .1 .1 .0);
+      top-odd = not-false (top-odd (e .top)) (k .1 .1 .0);
       next-right = w .0;
       expected-right = w .1;
-      idle-right = not-false (idle-right e) (k .1 .1 .1 .1 .0);
-      outgoing-right = not-false (outgoing-right e) (k .1 .1 .1 .1 .1 .0);
-      incoming-right = not-false (incoming-right e) (k .1 .1 .1 .1 .1 .1 .0);
+      idle-right = not-false (idle-right (e .sending)) (k .1 .1 .1 .1 .0);
+      outgoing-right = not-false (outgoing-right (e .sending)) (k .1 .1 .1 .1 .1 .0);
+      incoming-right = not-false (incoming-right (e .receiving)) (k .1 .1 .1 .1 .1 .1 .0);
     }
 
 -- true joined with true
@@ -95,18 +97,18 @@ unfolding risen
 risen-below n h = rw (lt-ltb n limit h)
 
 -- a key message that waits was sent, and has keys
-sent : (e : Entry) → Rules e → e .phase ≡ waiting → 2 ≤ e .next
+sent : (e : Entry) → Rules e → e .sending .phase ≡ waiting → 2 ≤ e .sending .next
 unfolding idle-right
 sent e p w =
-    let h : exactly false (eqb (e .next) 1) ≡ true = rw w at (p .idle-right) in
-    let l = within-both 1 limit (e .next) (p .next-right) in
-    omega (arith, eqb-false (e .next) 1 (neither (eqb (e .next) 1) h), l .0)
+    let h : exactly false (eqb (e .sending .next) 1) ≡ true = rw w at (p .idle-right) in
+    let l = within-both 1 limit (e .sending .next) (p .next-right) in
+    omega (arith, eqb-false (e .sending .next) 1 (neither (eqb (e .sending .next) 1) h), l .0)
   where
     neither : (b : Bool) → exactly false b ≡ true → b ≡ false
     neither true h = sym h
     neither false h = refl
 
-keyed : (e : Entry) → Rules e → e .phase ≡ waiting → within 1 2 (e .outgoing .count) ≡ true
+keyed : (e : Entry) → Rules e → e .sending .phase ≡ waiting → within 1 2 (e .sending .outgoing .count) ≡ true
 unfolding outgoing-right keys-if
 keyed e p w = rw w at (p .outgoing-right)
 
@@ -153,41 +155,44 @@ loaded-legal identity name top a b c = whole (loaded identity name top) (record 
   incoming-right = refl;
 })
   where
-    clean : (top : Top) → form-clean (loaded identity name top) ≡ true
+    clean : (top : Top) → form-clean (kept name top) ≡ true
     clean (Single key) = refl
     clean (Pair left right) = refl
 
-    odd : (top : Top) → odd-top top ≡ true → odd-top (top-of (loaded identity name top)) ≡ true
+    odd : (top : Top) → odd-top top ≡ true → odd-top (top-of (kept name top)) ≡ true
     odd (Single key) c = c
     odd (Pair left right) c = c
 
--- the receiving side anew, with keys
-received : (e : Entry) (n : ℕ) (set : KeySet) → legal e ≡ true → 2 ≤ n → n ≤ limit → Formed set
-    → legal (receiving e n set) ≡ true
-unfolding receiving form-clean top-odd top-of idle-right keys-if outgoing-right incoming-right
-received e n set h l m f = let p = rules e h in whole (receiving e n set) (record {
-  identity-filled = p .identity-filled;
-  name-filled = p .name-filled;
-  outgoing-named = p .outgoing-named;
-  incoming-named = f .named;
-  form-clean = p .form-clean;
-  outgoing-clean = p .outgoing-clean;
-  incoming-clean = f .clean;
-  top-odd = p .top-odd;
-  next-right = p .next-right;
-  expected-right = both-within 1 limit n (omega arith) m;
-  idle-right = p .idle-right;
-  outgoing-right = p .outgoing-right;
-  incoming-right = rw (lt-ltb 1 n l) (f .count);
-})
+-- the receiving unit anew, with keys
+pub accepted-legal : (e : Entry) (count : ℕ) (keys : KeySet) → legal e ≡ true → 1 ≤ count → count < limit
+    → keys-formed keys ≡ true → legal (with-receiving e (accepted count keys)) ≡ true
+unfolding accepted keys-if incoming-right
+accepted-legal e count keys h l m g =
+    let p = rules e h in
+    let f = formed keys g in
+    let r = risen-below count m in
+    whole (with-receiving e (accepted count keys)) (record {
+      identity-filled = p .identity-filled;
+      name-filled = p .name-filled;
+      outgoing-named = p .outgoing-named;
+      incoming-named = f .named;
+      form-clean = p .form-clean;
+      outgoing-clean = p .outgoing-clean;
+      incoming-clean = f .clean;
+      top-odd = p .top-odd;
+      next-right = p .next-right;
+      expected-right = both-within 1 limit (risen count) (omega arith) (omega arith);
+      idle-right = p .idle-right;
+      outgoing-right = p .outgoing-right;
+      incoming-right = rw (lt-ltb 1 (risen count) (omega arith)) (f .count);
+    })
 
--- the sending side anew, in a phase other than 0
-sent-legal : (e : Entry) (n phase : ℕ) (set : KeySet) → legal e ≡ true → set-named set ≡ true → set-clean set ≡ true
-    → 2 ≤ n → n ≤ limit → exactly (eqb phase idle) false ≡ true
-    → (leb phase broken && keys-if (eqb phase waiting || eqb phase confirmed) set) ≡ true
-    → legal (sending e n phase set) ≡ true
-unfolding sending form-clean top-odd top-of idle-right outgoing-right incoming-right
-sent-legal e n phase set h a b l m i o = let p = rules e h in whole (sending e n phase set) (record {
+-- the sending unit anew, in a phase other than 0
+sent-legal : (e : Entry) (s : Sending) → legal e ≡ true → set-named (s .outgoing) ≡ true
+    → set-clean (s .outgoing) ≡ true → 2 ≤ s .next → s .next ≤ limit → exactly (eqb (s .phase) idle) false ≡ true
+    → outgoing-right s ≡ true → legal (with-sending e s) ≡ true
+unfolding idle-right
+sent-legal e s h a b l m i o = let p = rules e h in whole (with-sending e s) (record {
   identity-filled = p .identity-filled;
   name-filled = p .name-filled;
   outgoing-named = a;
@@ -196,54 +201,52 @@ sent-legal e n phase set h a b l m i o = let p = rules e h in whole (sending e n
   outgoing-clean = b;
   incoming-clean = p .incoming-clean;
   top-odd = p .top-odd;
-  next-right = both-within 1 limit n (omega arith) m;
+  next-right = both-within 1 limit (s .next) (omega arith) m;
   expected-right = p .expected-right;
-  idle-right = rw (ne-eqb n 1 (λ e. omega arith)) i;
+  idle-right = rw (ne-eqb (s .next) 1 (λ e. omega arith)) i;
   outgoing-right = o;
   incoming-right = p .incoming-right;
 })
 
-pub accepted-legal : (e : Entry) (count : ℕ) (keys : KeySet) → legal e ≡ true → 1 ≤ count → count < limit
-    → keys-formed keys ≡ true → legal (accepted e count keys) ≡ true
-unfolding accepted
-accepted-legal e count keys h l m f =
-    let r = risen-below count m in
-    received e (risen count) keys h (omega arith) (omega arith) (formed keys f)
-
-pub issued-legal : (e : Entry) (keys : KeySet) → legal e ≡ true → e .next < limit → keys-formed keys ≡ true
-    → legal (issued e keys) ≡ true
-unfolding issued keys-if
+pub issued-legal : (e : Entry) (keys : KeySet) → legal e ≡ true → e .sending .next < limit → keys-formed keys ≡ true
+    → legal (with-sending e (issued (e .sending) keys)) ≡ true
+unfolding issued keys-if outgoing-right
 issued-legal e keys h m f =
-    let l = within-both 1 limit (e .next) (rules e h .next-right) in
-    let r = risen-below (e .next) m in
+    let n = e .sending .next in
+    let l = within-both 1 limit n (rules e h .next-right) in
+    let r = risen-below n m in
     let k = formed keys f in
-    sent-legal e (risen (e .next)) waiting keys h (k .named) (k .clean) (omega (arith, l .0, r)) (omega (arith, r))
-    refl (k .count)
+    sent-legal e (issued (e .sending) keys) h (k .named) (k .clean) (omega (arith, l .0, r)) (omega (arith, r)) refl
+    (k .count)
 
-pub settled-legal : (e : Entry) → legal e ≡ true → e .phase ≡ waiting → legal (settled e) ≡ true
-unfolding settled keys-if
+pub settled-legal : (e : Entry) → legal e ≡ true → e .sending .phase ≡ waiting
+    → legal (with-sending e (settled (e .sending))) ≡ true
+unfolding settled keys-if outgoing-right
 settled-legal e h w =
     let p = rules e h in
-    sent-legal e (e .next) confirmed (e .outgoing) h (p .outgoing-named) (p .outgoing-clean) (sent e p w)
-    (within-both 1 limit (e .next) (p .next-right) .1) refl (keyed e p w)
+    sent-legal e (settled (e .sending)) h (p .outgoing-named) (p .outgoing-clean) (sent e p w)
+    (within-both 1 limit (e .sending .next) (p .next-right) .1) refl (keyed e p w)
 
 -- broken, with no keys
-broken-legal : (e : Entry) (n : ℕ) → legal e ≡ true → 2 ≤ n → n ≤ limit → legal (sending e n broken no-keys) ≡ true
-unfolding set-named set-clean is-unused keys-if
-broken-legal e n h l m = sent-legal e n broken no-keys h refl refl l m refl refl
+broken-legal : (e : Entry) (n : ℕ) → legal e ≡ true → 2 ≤ n → n ≤ limit
+    → legal (with-sending e (record { next = n; phase = broken; outgoing = no-keys })) ≡ true
+unfolding set-named set-clean is-unused keys-if outgoing-right
+broken-legal e n h l m = sent-legal e _ h refl refl l m refl refl
 
-pub given-up-legal : (e : Entry) → legal e ≡ true → e .phase ≡ waiting → legal (given-up e) ≡ true
+pub given-up-legal : (e : Entry) → legal e ≡ true → e .sending .phase ≡ waiting
+    → legal (with-sending e (given-up (e .sending))) ≡ true
 unfolding given-up
 given-up-legal e h w =
     let p = rules e h in
-    broken-legal e (e .next) h (sent e p w) (within-both 1 limit (e .next) (p .next-right) .1)
+    broken-legal e (e .sending .next) h (sent e p w) (within-both 1 limit (e .sending .next) (p .next-right) .1)
 
-pub failed-legal : (e : Entry) (x : ℕ) → legal e ≡ true → e .phase ≡ waiting → 1 ≤ x → x ≤ limit
-    → legal (failed e x) ≡ true
+pub failed-legal : (e : Entry) (x : ℕ) → legal e ≡ true → e .sending .phase ≡ waiting → 1 ≤ x → x ≤ limit
+    → legal (with-sending e (failed (e .sending) x)) ≡ true
 unfolding failed
 failed-legal e x h w l m =
+    let n = e .sending .next in
     let p = rules e h in
     let s = sent e p w in
-    let g = le-max-left (e .next) x in
-    let u = within-both 1 limit (e .next) (p .next-right) in
-    broken-legal e (max (e .next) x) h (omega (arith, s, g)) (max-le (u .1) m)
+    let g = le-max-left n x in
+    let u = within-both 1 limit n (p .next-right) in
+    broken-legal e (max n x) h (omega (arith, s, g)) (max-le (u .1) m)

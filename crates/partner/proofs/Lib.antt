@@ -3,8 +3,6 @@ pub mod Storing
 pub mod Ruling
 pub mod Keeping
 pub mod Tabling
-pub mod Fielding
-pub mod Joining
 pub mod Holding
 pub mod Determined
 pub mod Examples

@@ -17,33 +17,10 @@ use Rattle.octets.specs.Wrote.{over}
 use Rattle.octets.proofs.Comparing.{both, same-equal, same-self}
 use Rattle.octets.proofs.Parting.{before-first, bare-free}
 use Rattle.octets.proofs.Numbers.{length-copies}
+use Rattle.octets.proofs.Parts.{take-copies}
 use Rattle.partner.specs.declared.Name.{Name}
 use Rattle.partner.specs.Entry.{blanks, filled}
 use Rattle.partner.specs.Legal.{is-filled}
-
-pub take-copies : (k j b : ℕ) → k ≤ j → take k (copies j b) ≡ copies k b
-take-copies zero j b h = refl
-take-copies (suc k) zero b h = absurd (not-suc-le-zero h)
-take-copies (suc k) (suc j) b h = ap (λ (t : Text). b ∷ t) (take-copies k j b (le-of-suc-le-suc h))
-
--- a text that is filled up with as many bytes as are wanted, or with more
-pub take-filled : (w : Text) (k j b : ℕ) → k ≤ j → take k (w ++ copies j b) ≡ take k (w ++ copies k b)
-take-filled w k j b h = go w k j k h (omega arith)
-  where
-    go : (w : Text) (k j i : ℕ) → k ≤ j → k ≤ i → take k (w ++ copies j b) ≡ take k (w ++ copies i b)
-    go [] k j i h g = take-copies k j b h ∙ sym (take-copies k i b g)
-    go (x ∷ w) zero j i h g = refl
-    go (x ∷ w) (suc k) j i h g = ap (λ (t : Text). x ∷ t) (go w k j i (omega arith) (omega arith))
-
--- a text laid over as many bytes
-pub over-copies : (w : Text) (k b : ℕ) → over w (copies k b) ≡ take k (w ++ copies k b)
-over-copies w k b = go w k ∙ refl
-  where
-    go : (w : Text) (k : ℕ) → over w (copies k b) ≡ take k (w ++ copies k b)
-    go [] k = sym (take-copies k k b (omega arith))
-    go (x ∷ w) zero = refl
-    go (x ∷ w) (suc k) =
-        ap (λ (t : Text). x ∷ t) (go w k ∙ sym (take-filled w k (suc k) b (omega arith)))
 
 pub name-as : {v w : Text} → v ≡ w → _≡_ {A = Name} (record { bytes = v }) (record { bytes = w })
 name-as e = λ j. record { bytes = e j }

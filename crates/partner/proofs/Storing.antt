@@ -1,70 +1,102 @@
--- Laws of the record: parts of a text, and what putting leaves.
-use mathlib.Core.Path.{_≡_, refl, sym, ap, _∙_, subst}
+-- Laws of the record, from its layout: its length, there and back, and what putting leaves.
+use mathlib.Core.Path.{_≡_, sym, ap, _∙_}
 use mathlib.Core.Bool.{true}
 use mathlib.Core.List.{_++_}
-use Prim.Native.Nat.{ℕ, zero, suc, _^_, _%_, _≤_, _<_}
+use Prim.Native.Nat.{ℕ, _≤_, _<_}
 use native.Mathlib.Omega.{arith}
-use lib.Dec.{ltb}
-use lib.ListN.{length, take, drop, length-append, length-take, drop-of-length-le}
-use lib.Seq.{take-take, take-all}
+use lib.ListN.{length, drop, length-append}
 use borrow.Author.Tests.{lt-ltb, le-ltb}
 use Rattle.octets.specs.Text.{Text}
 use Rattle.octets.specs.Part.{all-octets}
-use Rattle.octets.specs.Number.{copies}
-use Rattle.octets.specs.Wrote.{Wrote, over}
-use Rattle.octets.proofs.Comparing.{all-append, all-take, all-drop}
-use Rattle.octets.proofs.Numbers.{length-copies, number-below, number-fits}
+use Rattle.octets.specs.Codec.{Fits}
+use Rattle.octets.specs.Wrote.{Wrote}
+use Rattle.octets.proofs.Writing.{wrote-fits}
+use Rattle.octets.proofs.Codecs as codec
+use Rattle.partner.specs.declared.DataKey.{DataKey}
+use Rattle.partner.specs.declared.KeySet.{KeySet}
 use Rattle.partner.specs.declared.Entry.{Entry}
-use Rattle.partner.specs.Record.{part-or-zeros, number-in, entry-bytes, put-entry}
-use Rattle.partner.proofs.Naming.{take-filled, over-copies}
+use Rattle.partner.specs.Record.{place-layout, set-layout, entry-layout, entry-size, entry-bytes, entry-in, put-entry}
+use Rattle.partner.specs.Held.{HeldKey, HeldSet, Held}
 
--- ---- parts
+-- ---- what fits the layout is held, and the other way round
 
-octets-copies : (k : ℕ) → all-octets (copies k 0) ≡ true
-octets-copies zero = refl
-octets-copies (suc k) = octets-copies k
+key-fits : (k : DataKey) → HeldKey k → Fits place-layout k
+key-fits k h = (h .key, h .name)
 
-pub length-part : (k at : ℕ) (s : Text) → length (part-or-zeros k at s) ≡ k
-length-part k at s =
-    length-take k (drop at s ++ copies k 0) ∙ omega (arith, length-append (drop at s) (copies k 0), length-copies k 0)
+fits-key : (k : DataKey) → Fits place-layout k → HeldKey k
+fits-key k f = record { key = f .0; name = f .1 }
 
-pub octets-part : (k at : ℕ) (s : Text) → all-octets s ≡ true → all-octets (part-or-zeros k at s) ≡ true
-octets-part k at s h =
-    let a : all-octets (drop at s ++ copies k 0) ≡ true =
-    all-append (λ b. ltb b 256) (drop at s) (copies k 0) ∙ rw (all-drop (λ b. ltb b 256) at s h, octets-copies k) in
-    all-take (λ b. ltb b 256) k (drop at s ++ copies k 0) a
+set-fits : (set : KeySet) → HeldSet set → Fits set-layout set
+set-fits set h = (h .count, (key-fits (set .first) (h .first), key-fits (set .second) (h .second)))
 
--- a shorter part is the front of a longer one
-pub part-front : (k j at : ℕ) (s : Text) → k ≤ j → take k (part-or-zeros j at s) ≡ part-or-zeros k at s
-part-front k j at s h = take-take k j (drop at s ++ copies j 0) h ∙ take-filled (drop at s) k j 0 h
+fits-set : (set : KeySet) → Fits set-layout set → HeldSet set
+fits-set set f =
+    record { count = f .0; first = fits-key (set .first) (f .1 .0); second = fits-key (set .second) (f .1 .1) }
 
--- past the end
-pub part-none : (k at : ℕ) (s : Text) → length s ≤ at → take k (copies k 0) ≡ part-or-zeros k at s
-part-none k at s h = ap (λ (t : Text). take k (t ++ copies k 0)) (sym (drop-of-length-le s h))
+held-fits : (e : Entry) → Held e → Fits entry-layout e
+held-fits e h =
+    let t = h .top in
+    let s = h .sending in
+    let r = h .receiving in (
+      h .identity,
+      (
+        (t .name, (t .form, (t .left, t .right))),
+        (
+          (s .next, (r .expected, s .phase)),
+          (set-fits (e .sending .outgoing) (s .outgoing), set-fits (e .receiving .incoming) (r .incoming)),
+        ),
+      ),
+    )
 
--- what is copied over zeros
-pub part-copied : (k at n : ℕ) (s : Text) → length (drop at s) ≤ n
-    → over (take n (drop at s)) (copies k 0) ≡ part-or-zeros k at s
-part-copied k at n s h = ap (λ (t : Text). over t (copies k 0)) (take-all n (drop at s) h) ∙ over-copies (drop at s) k 0
+fits-held : (e : Entry) → Fits entry-layout e → Held e
+fits-held e (i, ((n, (f, (l, r))), ((x, (y, p)), (o, c)))) = record {
+  identity = i;
+  top = record { name = n; form = f; left = l; right = r };
+  sending = record { next = x; phase = p; outgoing = fits-set (e .sending .outgoing) o };
+  receiving = record { expected = y; incoming = fits-set (e .receiving .incoming) c };
+}
 
-pub number-in-below : (k at : ℕ) (s : Text) → all-octets s ≡ true → number-in k at s < 256 ^ k
-number-in-below k at s h =
-    subst (λ (n : ℕ). number-in k at s < 256 ^ n) (length-part k at s)
-    (number-below (part-or-zeros k at s) (octets-part k at s h))
+-- ---- length, there and back
 
-pub number-in-fits : (k at : ℕ) (s : Text) → all-octets s ≡ true → k ≤ 8 → number-in k at s % 2 ^ 64 ≡ number-in k at s
-number-in-fits k at s h e = number-fits (part-or-zeros k at s) (octets-part k at s h) (omega (arith, length-part k at s))
+pub length-entry : (e : Entry) → Held e → length (entry-bytes e) ≡ entry-size
+unfolding entry-bytes
+length-entry e h = codec.length-written entry-layout e (held-fits e h)
+
+-- for that it is enough that its six names have 16 bytes
+pub names-size : (e : Entry) → length (e .identity .bytes) ≡ 16 → length (e .top .name .bytes) ≡ 16
+    → length (e .sending .outgoing .first .name .bytes) ≡ 16 → length (e .sending .outgoing .second .name .bytes) ≡ 16
+    → length (e .receiving .incoming .first .name .bytes) ≡ 16 → length (e .receiving .incoming .second .name .bytes) ≡ 16
+    → length (entry-bytes e) ≡ entry-size
+unfolding entry-bytes
+names-size e i n a b c d = simp (length-append, i, n, a, b, c, d)
+
+pub octets-entry : (e : Entry) → Held e → all-octets (entry-bytes e) ≡ true
+unfolding entry-bytes
+octets-entry e h = codec.octets-written entry-layout e (held-fits e h)
+
+pub entry-back : (e : Entry) → Held e → entry-in (entry-bytes e) ≡ e
+unfolding entry-in entry-bytes
+entry-back e h = codec.read-written entry-layout e (held-fits e h)
+
+pub entry-held : (s : Text) → all-octets s ≡ true → Held (entry-in s)
+unfolding entry-in
+entry-held s h = fits-held (entry-in s) (codec.fits-read entry-layout 0 s h)
+
+pub read-written : (s : Text) → length s ≡ entry-size → all-octets s ≡ true → entry-bytes (entry-in s) ≡ s
+unfolding entry-in entry-bytes
+read-written s l h = codec.written-read entry-layout s l h
 
 -- ---- putting
 
-pub put-short : (e : Entry) (l : Text) → length l < 156 → put-entry e l ≡ (l, 0)
+pub put-short : (e : Entry) (l : Text) → length l < entry-size → put-entry e l ≡ (l, 0)
 unfolding put-entry
-put-short e l h = rw (lt-ltb (length l) 156 h)
+put-short e l h = rw (lt-ltb (length l) entry-size h)
 
-pub put-room : (e : Entry) {l l′ : Text} {n : ℕ} → 156 ≤ length l → Wrote (entry-bytes e) l l′ n → n ≡ 156
-    → put-entry e l ≡ (l′, n)
+pub put-room : (e : Entry) {l l′ : Text} {n : ℕ} → length (entry-bytes e) ≡ entry-size → entry-size ≤ length l
+    → Wrote (entry-bytes e) l l′ n → put-entry e l ≡ (l′, n)
 unfolding put-entry
-put-room e {l} {l′} {n} h w k =
-    let s : length (entry-bytes e) ≡ 156 = sym (w .count) ∙ k in
-    let t : l′ ≡ entry-bytes e ++ drop 156 l = w .text ∙ ap (λ (m : ℕ). entry-bytes e ++ drop m l) s in
-    rw (le-ltb (length l) 156 h) (λ j. (sym t j, sym k j))
+put-room e {l} {l′} {n} s h w =
+    let f = wrote-fits w (omega arith) in
+    let t : l′ ≡ entry-bytes e ++ drop entry-size l = f .0 ∙ ap (λ (m : ℕ). entry-bytes e ++ drop m l) s in
+    let k : n ≡ entry-size = f .1 ∙ s in
+    rw (le-ltb (length l) entry-size h) (λ j. (sym t j, sym k j))

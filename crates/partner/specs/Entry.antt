@@ -1,4 +1,5 @@
--- An entry of the partner table, field by field as its record stores it (document 01, "Partner table").
+-- An entry of the partner table in units: its top key with name and form, what it sends, what it receives (document 01,
+-- "Partner table").
 use mathlib.Core.Bool.{cond}
 use mathlib.Core.List.{List, [], _∷_, _++_}
 use Prim.Native.Nat.{ℕ, _+_}
@@ -11,6 +12,7 @@ use Rattle.keying.specs.declared.Top.the-variants.{Single, Pair}
 use Rattle.partner.specs.declared.Name.{Name}
 use Rattle.partner.specs.declared.DataKey.{DataKey}
 use Rattle.partner.specs.declared.KeySet.{KeySet}
+use Rattle.partner.specs.declared.TopKey.{TopKey}
 use Rattle.partner.specs.declared.Entry.{Entry}
 
 -- ---- names: 1 to 16 characters, filled with blanks; a missing one is 16 blanks
@@ -59,8 +61,8 @@ pair = 2
 -- ---- keys
 
 -- the top key, single or pair
-unfoldable pub top-of : Entry → Top
-top-of e = cond (eqb (e .form) pair) (Pair (e .left) (e .right)) (Single (e .left))
+unfoldable pub top-of : TopKey → Top
+top-of k = cond (eqb (k .form) pair) (Pair (k .left) (k .right)) (Single (k .left))
 
 -- the data keys of a set with their names, and the keys alone
 unfoldable pub places : KeySet → List DataKey
@@ -92,13 +94,7 @@ two-keys k l = record { count = 2; first = k; second = l }
 unfoldable pub empty : Entry
 empty = record {
   identity = zero-name;
-  name = zero-name;
-  form = 0;
-  left = 0;
-  right = 0;
-  next = 0;
-  expected = 0;
-  phase = 0;
-  outgoing = no-keys;
-  incoming = no-keys;
+  top = record { name = zero-name; form = 0; left = 0; right = 0 };
+  sending = record { next = 0; phase = 0; outgoing = no-keys };
+  receiving = record { expected = 0; incoming = no-keys };
 }

@@ -34,15 +34,9 @@ set n k l = record { count = n; first = k; second = l }
 abbrev pub entry : Name → Name → ℕ → ℕ → ℕ → ℕ → ℕ → ℕ → KeySet → KeySet → Entry
 entry identity key-name form left right next expected phase outgoing incoming = record {
   identity = identity;
-  name = key-name;
-  form = form;
-  left = left;
-  right = right;
-  next = next;
-  expected = expected;
-  phase = phase;
-  outgoing = outgoing;
-  incoming = incoming;
+  top = record { name = key-name; form = form; left = left; right = right };
+  sending = record { next = next; phase = phase; outgoing = outgoing };
+  receiving = record { expected = expected; incoming = incoming };
 }
 
 -- ---- an entry with every field different, and its record
@@ -160,8 +154,8 @@ pub record Examples : Type 0 where
   pub slot-wiped : entries.empty ≡ entry zeros zeros 0 0 0 0 0 0 no-set no-set
   pub name-filled : filled (ascii "MILL") ≡ ascii "MILL            "
   -- the keys of an entry
-  pub pair-is-top : top-of whole ≡ Pair L R
-  pub single-is-top : top-of slight ≡ Single L
+  pub pair-is-top : top-of (whole .top) ≡ Pair L R
+  pub single-is-top : top-of (slight .top) ≡ Single L
   pub two-data-keys : keys-in sent ≡ 0x1122334455667788 ∷ 0x99AABBCCDDEEFF10 ∷ []
   pub one-data-key : keys-in one-set ≡ 0x1122334455667788 ∷ []
   pub no-data-key : keys-in no-set ≡ []

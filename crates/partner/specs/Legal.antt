@@ -10,6 +10,9 @@ use Rattle.octets.specs.First.{Order, first}
 use Rattle.keying.specs.Keys.{odd-top}
 use Rattle.partner.specs.declared.DataKey.{DataKey}
 use Rattle.partner.specs.declared.KeySet.{KeySet}
+use Rattle.partner.specs.declared.TopKey.{TopKey}
+use Rattle.partner.specs.declared.Sending.{Sending}
+use Rattle.partner.specs.declared.Receiving.{Receiving}
 use Rattle.partner.specs.declared.Entry.{Entry}
 use Rattle.partner.specs.Entry.{blanks, filled, limit, top-of, zero-name, single, pair}
 use Rattle.partner.specs.Entry as phase
@@ -35,8 +38,8 @@ set-named set =
 
 unfoldable pub names-formed : Entry → Bool
 names-formed e =
-    is-filled (e .identity .bytes) && is-filled (e .name .bytes)
-    && set-named (e .outgoing) && set-named (e .incoming)
+    is-filled (e .identity .bytes) && is-filled (e .top .name .bytes)
+    && set-named (e .sending .outgoing) && set-named (e .receiving .incoming)
 
 -- ---- 4: unused bytes: a single key's second half and unused key places are zero
 
@@ -52,26 +55,27 @@ unfoldable pub keys-formed : KeySet → Bool
 keys-formed set = within 1 2 (set .count) && set-named set && set-clean set
 
 -- a pair, or a single key with no second half
-unfoldable pub form-clean : Entry → Bool
-form-clean e = eqb (e .form) pair || eqb (e .form) single && eqb (e .right) 0
+unfoldable pub form-clean : TopKey → Bool
+form-clean k = eqb (k .form) pair || eqb (k .form) single && eqb (k .right) 0
 
 unfoldable pub unused-zero : Entry → Bool
-unused-zero e = form-clean e && set-clean (e .outgoing) && set-clean (e .incoming)
+unused-zero e =
+    form-clean (e .top) && set-clean (e .sending .outgoing) && set-clean (e .receiving .incoming)
 
 -- ---- 5: odd parity of the top key halves in use
 
-unfoldable pub top-odd : Entry → Bool
-top-odd e = odd-top (top-of e)
+unfoldable pub top-odd : TopKey → Bool
+top-odd k = odd-top (top-of k)
 
 -- ---- 6: counts 1 to 99,999,999
 
-unfoldable pub counts-right : Entry → Bool
-counts-right e = within 1 limit (e .next) && within 1 limit (e .expected)
+unfoldable pub counts-right : ℕ → ℕ → Bool
+counts-right next-send expected = within 1 limit next-send && within 1 limit expected
 
 -- ---- 7: phase 0 exactly when next send is 1
 
-unfoldable pub idle-right : Entry → Bool
-idle-right e = exactly (eqb (e .phase) phase.idle) (eqb (e .next) 1)
+unfoldable pub idle-right : Sending → Bool
+idle-right s = exactly (eqb (s .phase) phase.idle) (eqb (s .next) 1)
 
 -- ---- 8: one or two outgoing keys in phases 1 and 2 and none in 0 and 3
 
@@ -79,15 +83,15 @@ idle-right e = exactly (eqb (e .phase) phase.idle) (eqb (e .next) 1)
 unfoldable pub keys-if : Bool → KeySet → Bool
 keys-if so set = cond so (within 1 2 (set .count)) (eqb (set .count) 0)
 
-unfoldable pub outgoing-right : Entry → Bool
-outgoing-right e =
-    leb (e .phase) phase.broken
-    && keys-if (eqb (e .phase) phase.waiting || eqb (e .phase) phase.confirmed) (e .outgoing)
+unfoldable pub outgoing-right : Sending → Bool
+outgoing-right s =
+    leb (s .phase) phase.broken
+    && keys-if (eqb (s .phase) phase.waiting || eqb (s .phase) phase.confirmed) (s .outgoing)
 
 -- ---- 9: incoming keys exactly when expected exceeds 1
 
-unfoldable pub incoming-right : Entry → Bool
-incoming-right e = keys-if (ltb 1 (e .expected)) (e .incoming)
+unfoldable pub incoming-right : Receiving → Bool
+incoming-right r = keys-if (ltb 1 (r .expected)) (r .incoming)
 
 -- ---- the list
 
@@ -96,11 +100,11 @@ unfoldable pub rules : Entry → Order
 rules e =
     (not (names-formed e), 3)
     ∷ (not (unused-zero e), 4)
-    ∷ (not (top-odd e), 5)
-    ∷ (not (counts-right e), 6)
-    ∷ (not (idle-right e), 7)
-    ∷ (not (outgoing-right e), 8)
-    ∷ (not (incoming-right e), 9)
+    ∷ (not (top-odd (e .top)), 5)
+    ∷ (not (counts-right (e .sending .next) (e .receiving .expected)), 6)
+    ∷ (not (idle-right (e .sending)), 7)
+    ∷ (not (outgoing-right (e .sending)), 8)
+    ∷ (not (incoming-right (e .receiving)), 9)
     ∷ []
 
 -- the number of the first rule that is broken, 0 where none is

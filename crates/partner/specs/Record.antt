@@ -1,84 +1,94 @@
--- An entry's record: the 156 bytes of its body (document 01, "Stored image"). Numbers have the high byte first.
+-- An entry's record, as document 01, "Stored image", lists it: the body of kind 2. Numbers have the high byte first.
+use mathlib.Core.Path.{refl}
 use mathlib.Core.Bool.{cond}
 use mathlib.Core.List.{_++_}
-use Prim.Native.Nat.{ℕ, _+_}
+use Prim.Native.Nat.{ℕ}
 use lib.Dec.{ltb}
-use lib.ListN.{length, take, drop}
+use lib.ListN.{length, drop}
 use Rattle.octets.specs.Text.{Text}
-use Rattle.octets.specs.Number.{number, bytes, copies}
+use Rattle.octets.specs.Codec.{Codec, numeral, plain, _followed-by_, as-record, width, written, value-at}
 use Rattle.partner.specs.declared.Name.{Name}
 use Rattle.partner.specs.declared.DataKey.{DataKey}
 use Rattle.partner.specs.declared.KeySet.{KeySet}
+use Rattle.partner.specs.declared.TopKey.{TopKey}
 use Rattle.partner.specs.declared.Entry.{Entry}
 
--- ---- writing
+-- ---- the layout
+
+-- a name or an identity: 16
+abbrev pub name-layout : Codec Name
+name-layout = as-record {B = Name} (plain 16) (λ t. record { bytes = t }) (λ n. n .bytes) (λ n. refl) (λ t. refl)
 
 -- a key place: key 8 and name 16
-unfoldable pub place-bytes : DataKey → Text
-place-bytes k = bytes 8 (k .key) ++ k .name .bytes
+abbrev pub place-layout : Codec DataKey
+place-layout =
+    as-record {B = DataKey} (numeral 8 followed-by name-layout)
+    (λ v. record { key = v .0; name = v .1 })
+    (λ k. (k .key, k .name))
+    (λ k. refl)
+    (λ v. refl)
 
--- a key set is its number 1, then two key places: 49
-unfoldable pub set-bytes : KeySet → Text
-set-bytes set = bytes 1 (set .count) ++ (place-bytes (set .first) ++ place-bytes (set .second))
+-- a key set is its number 1, then two key places
+abbrev pub set-layout : Codec KeySet
+set-layout =
+    as-record {B = KeySet} (numeral 1 followed-by place-layout followed-by place-layout)
+    (λ v. record { count = v .0; first = v .1 .0; second = v .1 .1 })
+    (λ set. (set .count, (set .first, set .second)))
+    (λ set. refl)
+    (λ v. refl)
 
--- key form 1, top key 16
-unfoldable pub top-bytes : ℕ → ℕ → ℕ → Text
-top-bytes form left right = bytes 1 form ++ (bytes 8 left ++ bytes 8 right)
-
--- identity 16, key name 16, then these
-unfoldable pub front-bytes : Entry → Text
-front-bytes e = (e .identity .bytes ++ e .name .bytes) ++ top-bytes (e .form) (e .left) (e .right)
+-- key name 16, key form 1, top key 16
+abbrev pub top-layout : Codec TopKey
+top-layout =
+    as-record {B = TopKey} (name-layout followed-by numeral 1 followed-by numeral 8 followed-by numeral 8)
+    (λ v. record { name = v .0; form = v .1 .0; left = v .1 .1 .0; right = v .1 .1 .1 })
+    (λ k. (k .name, (k .form, (k .left, k .right))))
+    (λ k. refl)
+    (λ v. refl)
 
 -- next send 4, expected 4, phase 1
-unfoldable pub count-bytes : Entry → Text
-count-bytes e = bytes 4 (e .next) ++ (bytes 4 (e .expected) ++ bytes 1 (e .phase))
+abbrev pub counts-layout : Codec (ℕ × (ℕ × ℕ))
+counts-layout = numeral 4 followed-by numeral 4 followed-by numeral 1
 
--- outgoing 49, incoming 49
-abbrev pub sets-bytes : KeySet → KeySet → Text
-sets-bytes outgoing incoming = set-bytes outgoing ++ set-bytes incoming
+-- identity 16; key name, form and top key; the counts; outgoing and incoming keys
+abbrev pub entry-layout : Codec Entry
+entry-layout =
+    as-record {B = Entry}
+    (name-layout followed-by top-layout followed-by counts-layout followed-by set-layout followed-by set-layout)
+    (λ v. record {
+      identity = v .0;
+      top = v .1 .0;
+      sending = record { next = v .1 .1 .0 .0; phase = v .1 .1 .0 .1 .1; outgoing = v .1 .1 .1 .0 };
+      receiving = record { expected = v .1 .1 .0 .1 .0; incoming = v .1 .1 .1 .1 };
+    })
+    (λ e. (
+      e .identity,
+      (
+        e .top,
+        (
+          (e .sending .next, (e .receiving .expected, e .sending .phase)),
+          (e .sending .outgoing, e .receiving .incoming),
+        ),
+      ),
+    ))
+    (λ e. refl)
+    (λ v. refl)
 
--- the whole record
+-- ---- the record
+
+-- how many bytes it has
+abbrev pub entry-size : ℕ
+entry-size = width entry-layout
+
+-- the record of an entry
 unfoldable pub entry-bytes : Entry → Text
-entry-bytes e = front-bytes e ++ (count-bytes e ++ sets-bytes (e .outgoing) (e .incoming))
+entry-bytes e = written entry-layout e
+
+-- the entry that a record is; what is missing is read as zeros
+unfoldable pub entry-in : Text → Entry
+entry-in s = value-at entry-layout 0 s
 
 -- a lent rest after the record is put to its front, and the number of bytes put: none where there is no room for it
 unfoldable pub put-entry : Entry → Text → Text × ℕ
-put-entry e rest = cond (ltb (length rest) 156) (rest, 0) (entry-bytes e ++ drop 156 rest, 156)
-
--- ---- reading
-
--- k bytes from a place on, zero past the end
-abbrev pub part-or-zeros : ℕ → ℕ → Text → Text
-part-or-zeros k at s = take k (drop at s ++ copies k 0)
-
--- the number of k bytes, a name, a key place and a key set from a place on
-abbrev pub number-in : ℕ → ℕ → Text → ℕ
-number-in k at s = number (part-or-zeros k at s)
-
-abbrev pub name-in : ℕ → Text → Name
-name-in at s = record { bytes = part-or-zeros 16 at s }
-
-abbrev pub place-in : ℕ → Text → DataKey
-place-in at s = record { key = number-in 8 at s; name = name-in (at + 8) s }
-
-unfoldable pub set-in : ℕ → Text → KeySet
-set-in at s = record {
-  count = number-in 1 at s;
-  first = place-in (at + 1) s;
-  second = place-in (at + 25) s;
-}
-
--- the entry that a record is
-unfoldable pub entry-in : Text → Entry
-entry-in s = record {
-  identity = name-in 0 s;
-  name = name-in 16 s;
-  form = number-in 1 32 s;
-  left = number-in 8 33 s;
-  right = number-in 8 41 s;
-  next = number-in 4 49 s;
-  expected = number-in 4 53 s;
-  phase = number-in 1 57 s;
-  outgoing = set-in 58 s;
-  incoming = set-in 107 s;
-}
+put-entry e rest =
+    cond (ltb (length rest) entry-size) (rest, 0) (entry-bytes e ++ drop entry-size rest, entry-size)

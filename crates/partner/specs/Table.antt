@@ -13,7 +13,7 @@ use Rattle.partner.specs.declared.Entry.{Entry}
 use Rattle.partner.specs.Entry.{empty}
 use Rattle.partner.specs.Held.{Held}
 use Rattle.partner.specs.Legal as partner
-use Rattle.partner.specs.Record.{entry-bytes}
+use Rattle.partner.specs.Record.{entry-size, entry-bytes}
 
 -- identities are kept filled with blanks, 16 bytes
 pub record Table : Type 0 where
@@ -22,7 +22,7 @@ pub record Table : Type 0 where
 
 -- an empty slot is all zero
 unfoldable pub is-empty : Entry → Bool
-is-empty e = same (entry-bytes e) (copies 156 0)
+is-empty e = same (entry-bytes e) (copies entry-size 0)
 
 -- ---- legal
 

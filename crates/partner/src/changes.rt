@@ -11,7 +11,10 @@ use crate::KeySet;
 use crate::LIMIT;
 use crate::Name;
 use crate::PAIR;
+use crate::Receiving;
 use crate::SINGLE;
+use crate::Sending;
+use crate::TopKey;
 use crate::WAITING;
 use keying::Top;
 
@@ -29,24 +32,21 @@ fn larger(a: u32, b: u32) -> u32
     if a < b { b } else { a }
 }
 
-// The sending side anew.
-fn sending(e: Entry, next: u32, phase: u8, outgoing: KeySet) -> Entry
-    ensures { λ r. ⌜ r ≡ change.sending e next phase outgoing ⌝ }
+// The entry with its sending unit anew.
+pub fn with_sending(e: Entry, sending: Sending) -> Entry
+    ensures { λ r. ⌜ r ≡ change.with-sending e sending ⌝ }
 {
     let mut n = e;
-    n.next = next;
-    n.phase = phase;
-    n.outgoing = outgoing;
+    n.sending = sending;
     n
 }
 
-// The receiving side anew.
-fn receiving(e: Entry, expected: u32, incoming: KeySet) -> Entry
-    ensures { λ r. ⌜ r ≡ change.receiving e expected incoming ⌝ }
+// The entry with its receiving unit anew.
+pub fn with_receiving(e: Entry, receiving: Receiving) -> Entry
+    ensures { λ r. ⌜ r ≡ change.with-receiving e receiving ⌝ }
 {
     let mut n = e;
-    n.expected = expected;
-    n.incoming = incoming;
+    n.receiving = receiving;
     n
 }
 
@@ -87,49 +87,72 @@ pub fn loaded(identity: Name, name: Name, top: Top) -> Entry
     let keys = crate::no_keys();
     Entry {
         identity: identity,
-        name: name,
-        form: form_of(top),
-        left: left_of(top),
-        right: right_of(top),
-        next: 1,
-        expected: 1,
-        phase: IDLE,
-        outgoing: keys,
-        incoming: keys,
+        top: TopKey {
+            name: name,
+            form: form_of(top),
+            left: left_of(top),
+            right: right_of(top),
+        },
+        sending: Sending {
+            next: 1,
+            phase: IDLE,
+            outgoing: keys,
+        },
+        receiving: Receiving {
+            expected: 1,
+            incoming: keys,
+        },
     }
 }
 
 // A KSM is accepted: the keys replace the incoming ones, expected becomes count + 1.
-pub fn accepted(e: Entry, count: u32, keys: KeySet) -> Entry
-    ensures { λ r. ⌜ r ≡ change.accepted e count keys ⌝ }
+pub fn accepted(count: u32, keys: KeySet) -> Receiving
+    ensures { λ r. ⌜ r ≡ change.accepted count keys ⌝ }
 {
-    receiving(e, risen(count), keys)
+    Receiving {
+        expected: risen(count),
+        incoming: keys,
+    }
 }
 
 // A KSM is built: the next send count rises by one, outgoing keys set, phase 1.
-pub fn issued(e: Entry, keys: KeySet) -> Entry
-    ensures { λ r. ⌜ r ≡ change.issued e keys ⌝ }
+pub fn issued(s: Sending, keys: KeySet) -> Sending
+    ensures { λ r. ⌜ r ≡ change.issued s keys ⌝ }
 {
-    sending(e, risen(e.next), WAITING, keys)
+    Sending {
+        next: risen(s.next),
+        phase: WAITING,
+        outgoing: keys,
+    }
 }
 
 // An RSM is taken: phase 2.
-pub fn settled(e: Entry) -> Entry
-    ensures { λ r. ⌜ r ≡ change.settled e ⌝ }
+pub fn settled(s: Sending) -> Sending
+    ensures { λ r. ⌜ r ≡ change.settled s ⌝ }
 {
-    sending(e, e.next, CONFIRMED, e.outgoing)
+    let mut n = s;
+    n.phase = CONFIRMED;
+    n
 }
 
 // Given up, or an ESM without counts: phase 3 and keys wiped.
-pub fn given_up(e: Entry) -> Entry
-    ensures { λ r. ⌜ r ≡ change.given-up e ⌝ }
+pub fn given_up(s: Sending) -> Sending
+    ensures { λ r. ⌜ r ≡ change.given-up s ⌝ }
 {
-    sending(e, e.next, BROKEN, crate::no_keys())
+    Sending {
+        next: s.next,
+        phase: BROKEN,
+        outgoing: crate::no_keys(),
+    }
 }
 
 // An ESM with CTP x: besides, next send becomes the larger of itself and x.
-pub fn failed(e: Entry, x: u32) -> Entry
-    ensures { λ r. ⌜ r ≡ change.failed e x ⌝ }
+pub fn failed(s: Sending, x: u32) -> Sending
+    ensures { λ r. ⌜ r ≡ change.failed s x ⌝ }
 {
-    sending(e, larger(e.next, x), BROKEN, crate::no_keys())
+    Sending {
+        next: larger(s.next, x),
+        phase: BROKEN,
+        outgoing: crate::no_keys(),
+    }
 }

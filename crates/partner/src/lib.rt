@@ -1,4 +1,5 @@
-// One partner's entry: its fields, when it is legal, and the changes that the steps make.
+// One partner's entry in units: its top key, what it sends, what it receives; when it is legal, and the changes that the
+// steps make.
 ghost use mathlib.Core.Path.{_≡_};
 ghost use Rattle.keying.specs.Keys.{listed};
 ghost use Rattle.partner.specs.Entry as entry;
@@ -12,6 +13,8 @@ pub use changes::given_up;
 pub use changes::issued;
 pub use changes::loaded;
 pub use changes::settled;
+pub use changes::with_receiving;
+pub use changes::with_sending;
 use keying::DataKeys;
 use keying::Top;
 pub use rules::broken;
@@ -57,19 +60,33 @@ pub struct KeySet {
     pub second: DataKey,
 }
 
-// An entry of the partner table: identity, key name, key form, top key, next send and expected counts, phase, data
-// keys; an empty slot is zero throughout.
-pub struct Entry {
-    pub identity: Name,
+// A top key as it is kept: its name, its form, the key or the two halves of a pair.
+pub struct TopKey {
     pub name: Name,
     pub form: u8,
     pub left: u64,
     pub right: u64,
+}
+
+// What we send: the next send count, the phase, the outgoing keys.
+pub struct Sending {
     pub next: u32,
-    pub expected: u32,
     pub phase: u8,
     pub outgoing: KeySet,
+}
+
+// What we receive: the expected count, the incoming keys.
+pub struct Receiving {
+    pub expected: u32,
     pub incoming: KeySet,
+}
+
+// An entry of the partner table; an empty slot is zero throughout.
+pub struct Entry {
+    pub identity: Name,
+    pub top: TopKey,
+    pub sending: Sending,
+    pub receiving: Receiving,
 }
 
 // ---- names and keys
@@ -84,13 +101,13 @@ pub fn name_of(w: &[u8]) -> Name
 }
 
 // The top key, single or pair.
-pub fn top_of(e: Entry) -> Top
-    ensures { λ r. ⌜ r ≡ entry.top-of e ⌝ }
+pub fn top_of(k: TopKey) -> Top
+    ensures { λ r. ⌜ r ≡ entry.top-of k ⌝ }
 {
-    if e.form == PAIR {
-        Top::Pair(e.left, e.right)
+    if k.form == PAIR {
+        Top::Pair(k.left, k.right)
     } else {
-        Top::Single(e.left)
+        Top::Single(k.left)
     }
 }
 
@@ -160,14 +177,20 @@ pub fn empty() -> Entry
     let keys = no_keys();
     Entry {
         identity: name,
-        name: name,
-        form: 0,
-        left: 0,
-        right: 0,
-        next: 0,
-        expected: 0,
-        phase: 0,
-        outgoing: keys,
-        incoming: keys,
+        top: TopKey {
+            name: name,
+            form: 0,
+            left: 0,
+            right: 0,
+        },
+        sending: Sending {
+            next: 0,
+            phase: 0,
+            outgoing: keys,
+        },
+        receiving: Receiving {
+            expected: 0,
+            incoming: keys,
+        },
     }
 }

@@ -12,7 +12,10 @@ use crate::KeySet;
 use crate::LIMIT;
 use crate::Name;
 use crate::PAIR;
+use crate::Receiving;
 use crate::SINGLE;
+use crate::Sending;
+use crate::TopKey;
 use crate::WAITING;
 
 // Whether a text is a name filled with blanks.
@@ -57,7 +60,13 @@ fn set_named(set: KeySet) -> bool
 fn names_formed(e: Entry) -> bool
     ensures { λ r. ⌜ r ≡ rule.names-formed e ⌝ }
 {
-    name_filled(e.identity) & name_filled(e.name) & set_named(e.outgoing) & set_named(e.incoming)
+    let top = e.top;
+    let sending = e.sending;
+    let receiving = e.receiving;
+    name_filled(e.identity)
+        & name_filled(top.name)
+        & set_named(sending.outgoing)
+        & set_named(receiving.incoming)
 }
 
 // Whether a key place is zero in all its bytes.
@@ -79,24 +88,26 @@ fn set_clean(set: KeySet) -> bool
 }
 
 // Key form 1 or 2, a single key's second half zero.
-fn form_clean(e: Entry) -> bool
-    ensures { λ r. ⌜ r ≡ rule.form-clean e ⌝ }
+fn form_clean(k: TopKey) -> bool
+    ensures { λ r. ⌜ r ≡ rule.form-clean k ⌝ }
 {
-    (e.form == PAIR) | (e.form == SINGLE) & (e.right == 0)
+    (k.form == PAIR) | (k.form == SINGLE) & (k.right == 0)
 }
 
 // Unused bytes: a single key's second half and unused key places are zero.
 fn unused_zero(e: Entry) -> bool
     ensures { λ r. ⌜ r ≡ rule.unused-zero e ⌝ }
 {
-    form_clean(e) & set_clean(e.outgoing) & set_clean(e.incoming)
+    let sending = e.sending;
+    let receiving = e.receiving;
+    form_clean(e.top) & set_clean(sending.outgoing) & set_clean(receiving.incoming)
 }
 
 // Odd parity of the top key halves in use.
-fn top_odd(e: Entry) -> bool
-    ensures { λ r. ⌜ r ≡ rule.top-odd e ⌝ }
+fn top_odd(k: TopKey) -> bool
+    ensures { λ r. ⌜ r ≡ rule.top-odd k ⌝ }
 {
-    keying::odd_top(crate::top_of(e))
+    keying::odd_top(crate::top_of(k))
 }
 
 // Whether low <= x <= high.
@@ -107,17 +118,17 @@ fn within(low: u32, high: u32, x: u32) -> bool
 }
 
 // Counts 1 to 99,999,999.
-fn counts_right(e: Entry) -> bool
-    ensures { λ r. ⌜ r ≡ rule.counts-right e ⌝ }
+fn counts_right(next: u32, expected: u32) -> bool
+    ensures { λ r. ⌜ r ≡ rule.counts-right next expected ⌝ }
 {
-    within(1, LIMIT, e.next) & within(1, LIMIT, e.expected)
+    within(1, LIMIT, next) & within(1, LIMIT, expected)
 }
 
 // Phase 0 exactly when next send is 1.
-fn idle_right(e: Entry) -> bool
-    ensures { λ r. ⌜ r ≡ rule.idle-right e ⌝ }
+fn idle_right(s: Sending) -> bool
+    ensures { λ r. ⌜ r ≡ rule.idle-right s ⌝ }
 {
-    (e.phase == IDLE) == (e.next == 1)
+    (s.phase == IDLE) == (s.next == 1)
 }
 
 // One or two keys if so, and none if not.
@@ -132,31 +143,33 @@ fn keys_if(so: bool, set: KeySet) -> bool
 }
 
 // One or two outgoing keys in phases 1 and 2 and none in 0 and 3.
-fn outgoing_right(e: Entry) -> bool
-    ensures { λ r. ⌜ r ≡ rule.outgoing-right e ⌝ }
+fn outgoing_right(s: Sending) -> bool
+    ensures { λ r. ⌜ r ≡ rule.outgoing-right s ⌝ }
 {
-    let keyed = (e.phase == WAITING) | (e.phase == CONFIRMED);
-    (e.phase <= BROKEN) & keys_if(keyed, e.outgoing)
+    let keyed = (s.phase == WAITING) | (s.phase == CONFIRMED);
+    (s.phase <= BROKEN) & keys_if(keyed, s.outgoing)
 }
 
 // Incoming keys exactly when expected exceeds 1.
-fn incoming_right(e: Entry) -> bool
-    ensures { λ r. ⌜ r ≡ rule.incoming-right e ⌝ }
+fn incoming_right(r: Receiving) -> bool
+    ensures { λ b. ⌜ b ≡ rule.incoming-right r ⌝ }
 {
-    keys_if(1 < e.expected, e.incoming)
+    keys_if(1 < r.expected, r.incoming)
 }
 
 // The number of the first rule that is broken, 0 where none is.
 pub fn broken(e: Entry) -> u32
     ensures { λ r. ⌜ r ≡ rule.broken e ⌝ }
 {
+    let sending = e.sending;
+    let receiving = e.receiving;
     let n = octets::then(0, !names_formed(e), 3);
     let n = octets::then(n, !unused_zero(e), 4);
-    let n = octets::then(n, !top_odd(e), 5);
-    let n = octets::then(n, !counts_right(e), 6);
-    let n = octets::then(n, !idle_right(e), 7);
-    let n = octets::then(n, !outgoing_right(e), 8);
-    octets::then(n, !incoming_right(e), 9)
+    let n = octets::then(n, !top_odd(e.top), 5);
+    let n = octets::then(n, !counts_right(sending.next, receiving.expected), 6);
+    let n = octets::then(n, !idle_right(sending), 7);
+    let n = octets::then(n, !outgoing_right(sending), 8);
+    octets::then(n, !incoming_right(receiving), 9)
 }
 
 // Whether none is.

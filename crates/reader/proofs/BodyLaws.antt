@@ -3,6 +3,7 @@ use mathlib.Core.Path.{_≡_, refl, sym, ap, _∙_}
 use mathlib.Core.Bool.{Bool, true, false, cond, not, _&&_, _||_}
 use mathlib.Core.List.{List, [], _∷_, _++_, append-nil}
 use mathlib.Core.Option.{Option, none, some}
+use Prim.Native.Nat.{ℕ}
 use lib.Dec.{eqb}
 use borrow.Author.Tests.{eqb-false, ne-eqb, not-true}
 use Rattle.octets.specs.Text.{Text, ascii, all, free, starts}
@@ -29,34 +30,34 @@ or-none : (o : Option (Body × Text)) → or-else o none ≡ o
 or-none none = refl
 or-none (some p) = refl
 
-seen-map : {A : Type 0} (h : Head) (f : A → Body) (o : Option A) → message-seen h (map f o) ≡ seen-as h f o
-seen-map h f none = refl
-seen-map h f (some a) = refl
+seen-map : {A : Type 0} (h : Head) (at : ℕ) (f : A → Body) (o : Option A) → message-seen h at (map f o) ≡ seen-as h at f o
+seen-map h at f none = refl
+seen-map h at f (some a) = refl
 
 -- the class's own fields, by the form d
-known-only : {A : Type 0} (h : Head) (c : csm.Class) (f : A → Body) (d : Format A) (u : Text)
+known-only : {A : Type 0} (h : Head) (at : ℕ) (c : csm.Class) (f : A → Body) (d : Format A) (u : Text)
     → read-known c u ≡ under f (d .read u) → rest c .read u ≡ none
-    → message-seen h (whole-body c u) ≡ seen-as h f (whole d u)
-known-only h c f d u k e =
-    ap (λ (o : Option (Text × Text)). message-seen h (bind (or-else (read-known c u) (under (option c) o)) at-end)) e
-    ∙ ap (λ (o : Option (Body × Text)). message-seen h (bind o at-end)) (or-none (read-known c u) ∙ k)
-    ∙ ap (message-seen h) (ends f (d .read u)) ∙ seen-map h f (whole d u)
+    → message-seen h at (whole-body c u) ≡ seen-as h at f (whole d u)
+known-only h at c f d u k e =
+    ap (λ (o : Option (Text × Text)). message-seen h at (bind (or-else (read-known c u) (under (option c) o)) at-end)) e
+    ∙ ap (λ (o : Option (Body × Text)). message-seen h at (bind o at-end)) (or-none (read-known c u) ∙ k)
+    ∙ ap (message-seen h at) (ends f (d .read u)) ∙ seen-map h at f (whole d u)
 
 -- a rest
-option-seen : (h : Head) (c : csm.Class) (o : Option Text)
-    → message-seen h (map (option c) o) ≡ rest-seen (class-of c) h o
-option-seen h c none = refl
-option-seen h c (some w) = refl
+option-seen : (h : Head) (at : ℕ) (c : csm.Class) (o : Option Text)
+    → message-seen h at (map (option c) o) ≡ rest-seen (class-of c) h at o
+option-seen h at c none = refl
+option-seen h at c (some w) = refl
 
-rest-only : (h : Head) (c : csm.Class) (u : Text) → read-known c u ≡ none
+rest-only : (h : Head) (at : ℕ) (c : csm.Class) (u : Text) → read-known c u ≡ none
     → rest c .read u ≡ upto 41 (plain any-rest) .read u
-    → message-seen h (whole-body c u) ≡ rest-body (class-of c) h u
+    → message-seen h at (whole-body c u) ≡ rest-body (class-of c) h at u
 unfolding rest-body
-rest-only h c u k e =
-    ap (λ (o : Option (Body × Text)). message-seen h (bind (or-else o (under (option c) (rest c .read u))) at-end)) k
-    ∙ ap (λ (o : Option (Text × Text)). message-seen h (bind (under (option c) o) at-end)) e
-    ∙ ap (message-seen h) (ends (option c) (upto 41 (plain any-rest) .read u))
-    ∙ option-seen h c (whole (upto 41 (plain any-rest)) u)
+rest-only h at c u k e =
+    ap (λ (o : Option (Body × Text)). message-seen h at (bind (or-else o (under (option c) (rest c .read u))) at-end)) k
+    ∙ ap (λ (o : Option (Text × Text)). message-seen h at (bind (under (option c) o) at-end)) e
+    ∙ ap (message-seen h at) (ends (option c) (upto 41 (plain any-rest) .read u))
+    ∙ option-seen h at c (whole (upto 41 (plain any-rest)) u)
 
 -- ---- classes that are options, and classes that have none
 
@@ -64,30 +65,30 @@ bind-none : {A B : Type 0} (o : Option A) → _≡_ {A = Option B} (bind o (λ a
 bind-none none = refl
 bind-none (some a) = refl
 
-module _ (h : Head) (u : Text) where
-  pub rsm-known : body class.Rsm h u ≡ rsm-body h u
+module _ (h : Head) (at : ℕ) (u : Text) where
+  pub rsm-known : body class.Rsm h at u ≡ rsm-body h at u
   unfolding body rsm-body
-  rsm-known = known-only h RSM rsm rsm-form u refl (bind-none (until 41 u))
+  rsm-known = known-only h at RSM rsm rsm-form u refl (bind-none (until 41 u))
 
-  pub esm-known : body class.Esm h u ≡ esm-body h u
+  pub esm-known : body class.Esm h at u ≡ esm-body h at u
   unfolding body esm-body
-  esm-known = known-only h ESM esm esm-form u refl (bind-none (until 41 u))
+  esm-known = known-only h at ESM esm esm-form u refl (bind-none (until 41 u))
 
-  pub dsm-rest : body class.Dsm h u ≡ rest-body class.Dsm h u
+  pub dsm-rest : body class.Dsm h at u ≡ rest-body class.Dsm h at u
   unfolding body any-rest
-  dsm-rest = rest-only h DSM u refl refl
+  dsm-rest = rest-only h at DSM u refl refl
 
-  pub ers-rest : body class.Ers h u ≡ rest-body class.Ers h u
+  pub ers-rest : body class.Ers h at u ≡ rest-body class.Ers h at u
   unfolding body any-rest
-  ers-rest = rest-only h ERS u refl refl
+  ers-rest = rest-only h at ERS u refl refl
 
-  pub rfs-rest : body class.Rfs h u ≡ rest-body class.Rfs h u
+  pub rfs-rest : body class.Rfs h at u ≡ rest-body class.Rfs h at u
   unfolding body any-rest
-  rfs-rest = rest-only h RFS u refl refl
+  rfs-rest = rest-only h at RFS u refl refl
 
-  pub rtr-rest : body class.Rtr h u ≡ rest-body class.Rtr h u
+  pub rtr-rest : body class.Rtr h at u ≡ rest-body class.Rtr h at u
   unfolding body any-rest
-  rtr-rest = rest-only h RTR u refl refl
+  rtr-rest = rest-only h at RTR u refl refl
 
 -- ---- RSI and KSM: only the field after ORG decides
 
@@ -138,27 +139,27 @@ row-none : (rs : Row) (ts : List Text) → leads rs (ascii ")") ts ≡ true → 
     → closed rs .read u ≡ none
 row-none rs ts k u e = ap (closed rs .read) (sym (append-nil u)) ∙ leads-none rs (ascii ")") ts k u [] e
 
-module _ (h : Head) (u : Text) where
-  pub rsi-option-rest : starts-any rsi-options u ≡ true → body class.Rsi h u ≡ rest-body class.Rsi h u
+module _ (h : Head) (at : ℕ) (u : Text) where
+  pub rsi-option-rest : starts-any rsi-options u ≡ true → body class.Rsi h at u ≡ rest-body class.Rsi h at u
   unfolding body
   rsi-option-rest e =
-      rest-only h RSI u
+      rest-only h at RSI u
       (ap (λ (o : Option (Values rsi-row × Text)). under rsi (bind o (λ p. some (rsi-record (p .0), p .1))))
       (row-none rsi-row rsi-options refl u e))
       (rest-when RSI rsi-options (λ w. refl) refl u true e)
 
-  pub rsi-known : starts-any rsi-options u ≡ false → body class.Rsi h u ≡ rsi-body h u
+  pub rsi-known : starts-any rsi-options u ≡ false → body class.Rsi h at u ≡ rsi-body h at u
   unfolding body rsi-body
-  rsi-known e = known-only h RSI rsi rsi-form u refl (rest-when RSI rsi-options (λ w. refl) refl u false e)
+  rsi-known e = known-only h at RSI rsi rsi-form u refl (rest-when RSI rsi-options (λ w. refl) refl u false e)
 
-  pub ksm-option-rest : starts-any ksm-options u ≡ true → body class.Ksm h u ≡ rest-body class.Ksm h u
+  pub ksm-option-rest : starts-any ksm-options u ≡ true → body class.Ksm h at u ≡ rest-body class.Ksm h at u
   unfolding body
   ksm-option-rest e =
-      rest-only h KSM u
+      rest-only h at KSM u
       (ap (λ (o : Option (Values ksm-row × Text)). under ksm (bind o (λ p. some (ksm-record (p .0), p .1))))
       (row-none ksm-row ksm-options refl u e))
       (rest-when KSM ksm-options (λ w. refl) refl u true e)
 
-  pub ksm-known : starts-any ksm-options u ≡ false → body class.Ksm h u ≡ ksm-body h u
+  pub ksm-known : starts-any ksm-options u ≡ false → body class.Ksm h at u ≡ ksm-body h at u
   unfolding body ksm-body
-  ksm-known e = known-only h KSM ksm ksm-form u refl (rest-when KSM ksm-options (λ w. refl) refl u false e)
+  ksm-known e = known-only h at KSM ksm ksm-form u refl (rest-when KSM ksm-options (λ w. refl) refl u false e)

@@ -1,12 +1,10 @@
 pub mod RowLaws
-pub mod SeenLaws
 pub mod StageLaws
 pub mod LetterLaws
 pub mod OptionLaws
 pub mod BodyLaws
 pub mod ReadLaws
-pub mod PartLaws
-pub mod KsmParts
+pub mod SpanLaws
 pub mod Claims
 pub mod SeenBack
 pub mod Determined

@@ -1,19 +1,19 @@
 -- A rest: its characters, its last blank, and the closing parenthesis that ends the text.
 use mathlib.Core.Path.{_≡_, refl, sym, ap, _∙_}
 use mathlib.Core.Bool.{Bool, true, false, cond, not, _&&_, _||_}
-use mathlib.Core.List.{List, [], _∷_}
+use mathlib.Core.List.{[], _∷_}
 use mathlib.Core.Option.{Option, none, some}
 use Prim.Native.Nat.{ℕ, suc, _+_, _-_, _≤_, _<_}
 use native.Mathlib.Omega.{arith}
 use lib.Dec.{eqb, ltb, leb}
 use lib.ListN.{length, take, drop, getD, length-drop, drop-of-length-le}
 use lib.Seq.{take-all, drop-cons, length-take-le}
-use Rattle.octets.specs.Text.{Text, blank, all, free, starts}
+use Rattle.octets.specs.Text.{Text, blank, all, free}
 use Rattle.octets.specs.Part.{before}
 use Rattle.octets.proofs.Parting.{before-fits, free-before, before-at}
 use Rattle.octets.proofs.Comparing.{same-self as same-refl}
 use Rattle.csm.specs.Format.{bind, value, plain, upto, at-end}
-use Rattle.csm.specs.Message.{text-char, ends-blank, starts-any}
+use Rattle.csm.specs.Message.{text-char, ends-blank}
 use Rattle.csm.proofs.FormatLaws.{upto-read, upto-none}
 use Rattle.csm.proofs.FieldLaws.{below-at}
 use Rattle.reader.specs.Stages.{any-rest, rest-seen, rest-body}
@@ -76,14 +76,14 @@ plain-value p w b e =
     last false = refl
 
 module _ (c : Class) (h : Head) (s : Text) (at end : ℕ) (is : end ≡ at + before 41 (drop at s)) where
-  pub rest-missing : length s ≤ end → rest-body c h (drop at s) ≡ message.Nothing
+  pub rest-missing : length s ≤ end → rest-body c h at (drop at s) ≡ message.Nothing
   unfolding rest-body
   rest-missing l =
       let u = drop at s in
       let n = before 41 u in
       let m : length u ≤ n = omega (arith, is, length-drop at s) in
       let f : free 41 u ≡ true = ap (free 41) (sym (take-all n u m)) ∙ free-before 41 u in
-      ap (λ (o : Option (Text × Text)). rest-seen c h (bind o at-end)) (upto-none 41 (plain any-rest) u f)
+      ap (λ (o : Option (Text × Text)). rest-seen c h at (bind o at-end)) (upto-none 41 (plain any-rest) u f)
 
   there : end < length s
       → upto 41 (plain any-rest) .read (drop at s)
@@ -94,24 +94,24 @@ module _ (c : Class) (h : Head) (s : Text) (at end : ℕ) (is : end ≡ at + bef
       let m : before 41 u < length u = omega (arith, is, length-drop at s) in
       upto-read 41 (plain any-rest) u (before 41 u) m (free-before 41 u) (before-at 41 u m)
 
-  pub rest-more : end < length s → (length s ≡ end + 1 → ⊥) → rest-body c h (drop at s) ≡ message.Nothing
+  pub rest-more : end < length s → (length s ≡ end + 1 → ⊥) → rest-body c h at (drop at s) ≡ message.Nothing
   unfolding rest-body
   rest-more l ne =
       let u = drop at s in
       let n = before 41 u in
       let m : suc n < length u = omega (arith, is, length-drop at s) in
-      ap (λ (o : Option (Text × Text)). rest-seen c h (bind o at-end))
+      ap (λ (o : Option (Text × Text)). rest-seen c h at (bind o at-end))
       (there l ∙ ap (λ (t : Text). bind (value (plain any-rest) (take n u)) (λ a. some (a, t)))
       (drop-cons u (suc n) 0 m))
-      ∙ ap (rest-seen c h) (go (value (plain any-rest) (take n u)) (getD u (suc n) 0) (drop (suc (suc n)) u))
+      ∙ ap (rest-seen c h at) (go (value (plain any-rest) (take n u)) (getD u (suc n) 0) (drop (suc (suc n)) u))
     where
       go : (o : Option Text) (x : ℕ) (t : Text) → bind (bind o (λ a. some (a, x ∷ t))) at-end ≡ none
       go none x t = refl
       go (some a) x t = refl
 
   pub rest-whole : length s ≡ end + 1 → (b : Bool) → any-rest (take (end - at) (drop at s)) ≡ b
-      → rest-body c h (drop at s)
-      ≡ cond b (message.Option (record { head = h; class = c; length = end - at })) message.Nothing
+      → rest-body c h at (drop at s)
+      ≡ cond b (message.Option (record { head = h; class = c; rest = record { at = at; length = end - at } })) message.Nothing
   unfolding rest-body
   rest-whole l b e =
       let u = drop at s in
@@ -120,39 +120,27 @@ module _ (c : Class) (h : Head) (s : Text) (at end : ℕ) (is : end ≡ at + bef
       let m : length u ≤ suc n = omega (arith, is, l, length-drop at s) in
       let size : length (take n u) ≡ end - at = length-take-le n u (before-fits 41 u) ∙ sym k in
       let e' : any-rest (take n u) ≡ b = ap (λ (i : ℕ). any-rest (take i u)) (sym k) ∙ e in
-      ap (λ (o : Option (Text × Text)). rest-seen c h (bind o at-end))
+      ap (λ (o : Option (Text × Text)). rest-seen c h at (bind o at-end))
       (there (omega (arith, l))
       ∙ ap (λ (t : Text). bind (value (plain any-rest) (take n u)) (λ a. some (a, t))) (drop-of-length-le u m))
-      ∙ ap (λ (o : Option Text). rest-seen c h (bind (bind o (λ a. some (a, []))) at-end)) (plain-value any-rest
+      ∙ ap (λ (o : Option Text). rest-seen c h at (bind (bind o (λ a. some (a, []))) at-end)) (plain-value any-rest
       (take n u) b e')
       ∙ pick (take n u) b
-      ∙ ap (λ (i : ℕ). cond b (message.Option (record { head = h; class = c; length = i })) message.Nothing) size
+      ∙ ap (λ (i : ℕ). cond b (message.Option (record { head = h; class = c; rest = record { at = at; length = i } })) message.Nothing) size
     where
       pick : (w : Text) (b : Bool)
-          → rest-seen c h (bind (bind (cond b (some w) none) (λ a. some (a, []))) at-end)
-          ≡ cond b (message.Option (record { head = h; class = c; length = length w })) message.Nothing
+          → rest-seen c h at (bind (bind (cond b (some w) none) (λ a. some (a, []))) at-end)
+          ≡ cond b (message.Option (record { head = h; class = c; rest = record { at = at; length = length w } })) message.Nothing
       pick w true = refl
       pick w false = refl
 
 -- ---- tags, tried in turn
 
--- whether one of the tags stands at the front of u
-pub record Tried (ts : List Text) (u : Text) (b : Bool) : Type 0 where
-  pub is : starts-any ts u ≡ b
+-- the last of them
+pub or-none : (b : Bool) → b || false ≡ b
+or-none true = refl
+or-none false = refl
 
-module _ {t : Text} {ts : List Text} {u : Text} where
-  pub here : starts t u ≡ true → Tried (t ∷ ts) u true
-  here e = record { is = ap (λ (b : Bool). b || starts-any ts u) e }
-
-  pub skip : {b : Bool} → starts t u ≡ false → Tried ts u b → Tried (t ∷ ts) u b
-  skip e r = record { is = ap (λ (b : Bool). b || starts-any ts u) e ∙ r .is }
-
-pub last : {t u : Text} {b : Bool} → starts t u ≡ b → Tried (t ∷ []) u b
-last {t} {u} {b} e = record { is = go (starts t u) ∙ e }
-  where
-    go : (b : Bool) → b || false ≡ b
-    go true = refl
-    go false = refl
-
-pub tried : (ts : List Text) (u : Text) (b : Bool) → Tried ts u b → starts-any ts u ≡ b
-tried ts u b r = r .is
+-- one before others
+pub or-both : {r x y p q : Bool} → r ≡ x || y → x ≡ p → y ≡ q → r ≡ p || q
+or-both e f g = e ∙ (λ i. f i || g i)

@@ -1,97 +1,49 @@
 -- What a text is read as, from its first bytes, its class, its names and its body.
 use mathlib.Core.Path.{_≡_, refl, sym, ap, _∙_}
-use mathlib.Core.Bool.{Bool, true, false, cond, _&&_}
+use mathlib.Core.Bool.{Bool, true, false, cond, _&&_, true≢false}
 use mathlib.Core.List.{[], _∷_}
 use mathlib.Core.Option.{Option, none, some}
-use Prim.Native.Nat.{ℕ, _+_, _≤_, _<_}
+use Prim.Native.Nat.{ℕ, _≤_, _<_}
 use native.Mathlib.Omega.{arith}
 use lib.Dec.{leb}
-use lib.ListN.{length, drop, length-append}
+use lib.ListN.{length, drop}
 use borrow.Author.Tests.{lt-leb}
 use Rattle.octets.specs.Text.{Text, ascii, starts}
+use Rattle.octets.specs.Part.{found}
 use Rattle.octets.proofs.Comparing.{starts-fits}
 use Rattle.csm.specs.Format.{bind, at-end, whole}
-use Rattle.csm.specs.Fields.{MCL, RCV, ORG, field}
+use Rattle.csm.specs.Fields.{MCL, RCV, ORG, class-text, field}
 use Rattle.csm.specs.Fields.{RSI, KSM, RSM, ESM, DSM, ERS, RFS, RTR}
 use Rattle.csm.specs.Fields as csm
-use Rattle.csm.specs.Message.{Values, fields, head-row, head, Head as CsmHead, Body, Reading, read-body}
+use Rattle.csm.specs.Message.{Row, one, Values, fields, head-row, head, Head as CsmHead, Body, Reading, class-of as class-in, read-body}
 use Rattle.csm.specs.Message.{with-body, read-after, message, fits, read}
 use Rattle.csm.proofs.TextLaws.{true-within}
-use Rattle.csm.proofs.MessageLaws.{fields-lawful}
-use Rattle.fields.specs.Seen.{class-of, class-seen}
-use Rattle.fields.proofs.Within.{Next, next-of, class-next}
-use Rattle.reader.specs.Seen.{seen}
-use Rattle.reader.specs.Stages.{names-row, names-seen, names-of, message-seen, whole-body, class-named, body}
+use Rattle.fields.specs.Seen.{taken, class-of, class-seen}
+use Rattle.reader.specs.Seen.{next-at, body-seen, seen}
+use Rattle.reader.specs.Stages.{taken-at, names-with, names-at, message-seen, whole-body, class-named, body}
 use Rattle.fields.specs.declared.Class.{Class}
-use Rattle.reader.specs.declared.Head.{Head}
-use Rattle.reader.specs.declared.Names.the-variants as names
 use Rattle.reader.specs.declared.Message.the-variants as message-is
-use Rattle.reader.proofs.SeenLaws.{Piece-at}
+use Rattle.reader.proofs.RowLaws.{next-read}
 
--- ---- RCV and ORG
+-- ---- the head
 
-module _ (s : Text) (at : ℕ) where
-  pub names-first : field RCV .read (drop at s) ≡ none → names-of (drop at s) ≡ names.Nothing
-  unfolding names-of
-  names-first e = rw e
+class-size : (c : csm.Class) → length (class-text c) ≡ 3
+class-size RSI = refl
+class-size KSM = refl
+class-size RSM = refl
+class-size ESM = refl
+class-size DSM = refl
+class-size ERS = refl
+class-size RFS = refl
+class-size RTR = refl
 
-  pub names-second : {n mid : ℕ} → Piece-at (field RCV) s at n mid → field ORG .read (drop mid s) ≡ none
-      → names-of (drop at s) ≡ names.Nothing
-  unfolding names-of
-  names-second r e = rw (r .reads .is, e)
+-- behind every class RCV starts at 12
+class-end : (c : csm.Class) → next-at MCL 4 (some c) ≡ 12
+class-end c = omega (arith, class-size c)
 
-  pub names-both : {n m mid next : ℕ} → Piece-at (field RCV) s at n mid → Piece-at (field ORG) s mid m next
-      → names-of (drop at s) ≡ names.Is (record { rcv = n; org = m })
-  unfolding names-of
-  names-both r q =
-      let e : names-of (drop at s) ≡ names.Is (record { rcv = length (r .text); org = length (q .text) }) =
-      rw (r .reads .is, q .reads .is) in
-      e ∙ (λ i. names.Is (record { rcv = r .size i; org = q .size i }))
-
--- what the names say of the text
-pub record Names-at (s : Text) (at : ℕ) (h : Head) : Type 0 where
-  pub rcv : Text
-  pub org : Text
-  pub is : record { rcv = length rcv; org = length org } ≡ h
-  pub reads : Next (fields names-row []) s at (rcv, (org, tt)) (at + h .rcv + h .org + 10)
-
-module _ (s : Text) (at : ℕ) where
-  pub names-none : names-of (drop at s) ≡ names.Nothing → fields names-row [] .read (drop at s) ≡ none
-  unfolding names-of
-  names-none e = go (fields names-row [] .read (drop at s)) e
-    where
-      go : (o : Option (Values names-row × Text)) → names-seen o ≡ names.Nothing → o ≡ none
-      go none e = refl
-      go (some ((rcv, (org, u)), t)) e = absurd (let z : _≡_ {A = ℕ} 0 1 = cc in omega arith)
-
-  pub names-is : (h : Head) → names-of (drop at s) ≡ names.Is h → Names-at s at h
-  unfolding names-of
-  names-is h e = go (fields names-row [] .read (drop at s)) refl e
-    where
-      size : (rcv org : Text) → length (fields names-row [] .print (rcv, (org, tt))) ≡ length rcv + length org + 10
-      size rcv org = simp length-append (omega arith)
-
-      go : (o : Option (Values names-row × Text)) → fields names-row [] .read (drop at s) ≡ o
-          → names-seen o ≡ names.Is h → Names-at s at h
-      go none r e = absurd (let z : _≡_ {A = ℕ} 0 1 = cc in omega arith)
-      go (some ((rcv, (org, u)), t)) r e =
-          let i : record { rcv = length rcv; org = length org } ≡ h = cc in
-          let n : length rcv ≡ h .rcv = ap (λ (h : Head). h .rcv) i in
-          let m : length org ≡ h .org = ap (λ (h : Head). h .org) i in
-          let k = size rcv org in
-          record {
-            rcv = rcv;
-            org = org;
-            is = i;
-            reads = next-of (fields names-row []) s at (rcv, (org, tt)) t (at + h .rcv + h .org + 10) r
-                (fields-lawful names-row [] refl .back (drop at s) (rcv, (org, tt)) t r) (omega arith) (omega arith);
-          }
-
--- ---- the class
-
-class-place : (s : Text) (c : csm.Class) (t : Text) → field MCL .read (drop 4 s) ≡ some (c, t)
-    → Next (field MCL) s 4 c 12
-class-place s c t e = class-next s 4 c 12 (ap class-seen e) refl
+-- what follows it
+abbrev names-row : Row
+names-row = one RCV ∷ one ORG ∷ []
 
 -- the class of a name is that name
 class-back : (c : csm.Class) → class-named (class-of c) ≡ some c
@@ -119,14 +71,45 @@ read-none s e =
 head-after : (s : Text) → starts (ascii "CSM(") s ≡ true → head .read s ≡ fields head-row [] .read (drop 4 s)
 head-after s e = rw e
 
--- what is read once the head is
-seen-body : (h : CsmHead) (o : Option (Body × Text))
-    → seen (bind (bind o (λ q. some (with-body h (q .0), q .1))) at-end)
-    ≡ message-seen (record { rcv = length (h .1 .0); org = length (h .1 .1 .0) }) (bind o at-end)
+-- what is seen of a reading, by its names at 12
+seen-at-12 : (rcv org : Text) (b : Body) → let n = names-with 12 (some rcv) (some org) in
+    seen (some (record { rcv = rcv; org = org; body = b })) ≡ body-seen (n .head) (n .next) b
 unfolding seen
-seen-body h none = refl
-seen-body h (some (b, [])) = refl
-seen-body h (some (b, x ∷ t)) = refl
+seen-at-12 rcv org b =
+    ap (λ (i : ℕ). let n = names-with i (some rcv) (some org) in body-seen (n .head) (n .next) b)
+    (class-end (class-in b))
+
+seen-body : (c : csm.Class) (rcv org : Text) (o : Option (Body × Text)) → let n = names-with 12 (some rcv) (some org) in
+    seen (bind (bind o (λ q. some (with-body (c, (rcv, (org, tt))) (q .0), q .1))) at-end)
+    ≡ message-seen (n .head) (n .next) (bind o at-end)
+unfolding seen
+seen-body c rcv org none = refl
+seen-body c rcv org (some (b, [])) = seen-at-12 rcv org b
+seen-body c rcv org (some (b, x ∷ t)) = refl
+
+-- ---- RCV and ORG
+
+-- what is read of both, from what is read of each
+abbrev both-names : Text → ℕ → Option Text → Option Text → Option (Values names-row × Text)
+both-names s at o p = bind o (λ rcv. bind p (λ org. some ((rcv, (org, tt)), drop (names-with at o p .next) s)))
+
+names-read : (s : Text) (at : ℕ)
+    → fields names-row [] .read (drop at s)
+    ≡ both-names s at (taken-at RCV s at) (taken-at ORG s (next-at RCV at (taken-at RCV s at)))
+names-read s at = first (field RCV .read (drop at s)) refl
+  where
+    second : (x : Text) (o : Option (Text × Text)) → let n = next-at RCV at (some x) in
+        field ORG .read (drop n s) ≡ o → field RCV .read (drop at s) ≡ some (x, drop n s)
+        → fields names-row [] .read (drop at s) ≡ both-names s at (some x) (taken o)
+    second x none e r = rw (r, e)
+    second x (some (y, t)) e r = rw (r, next-read ORG s (next-at RCV at (some x)) y t e)
+
+    first : (o : Option (Text × Text)) → field RCV .read (drop at s) ≡ o
+        → fields names-row [] .read (drop at s)
+        ≡ both-names s at (taken o) (taken-at ORG s (next-at RCV at (taken o)))
+    first none e = rw e
+    first (some (x, t)) e =
+        second x (field ORG .read (drop (next-at RCV at (some x)) s)) refl (next-read RCV s at x t e)
 
 module _ (s : Text) where
   pub read-long : 512 < length s → seen (read s) ≡ message-is.Nothing
@@ -142,35 +125,58 @@ module _ (s : Text) where
   pub read-front : starts (ascii "CSM(") s ≡ false → seen (read s) ≡ message-is.Nothing
   read-front e = read-none s (rw e)
 
+  -- what is read once the class is
+  class-read : (c : csm.Class) (t : Text) → field MCL .read (drop 4 s) ≡ some (c, t)
+      → field MCL .read (drop 4 s) ≡ some (c, drop 12 s)
+  class-read c t e = next-read MCL s 4 c t e ∙ ap (λ (n : ℕ). some (c, drop n s)) (class-end c)
+
   module _ (front : starts (ascii "CSM(") s ≡ true) where
-    pub read-nameless : names-of (drop 12 s) ≡ names.Nothing → seen (read s) ≡ message-is.Nothing
-    read-nameless e = read-none s (head-after s front ∙ go (field MCL .read (drop 4 s)) refl)
+    without : (o p : Option Text) → fields names-row [] .read (drop 12 s) ≡ both-names s 12 o p
+        → found o && found p ≡ false → seen (read s) ≡ message-is.Nothing
+    without o p e b = read-none s (head-after s front ∙ go (field MCL .read (drop 4 s)) refl)
       where
-        go : (o : Option (csm.Class × Text)) → field MCL .read (drop 4 s) ≡ o
+        no-names : (o p : Option Text) → found o && found p ≡ false → both-names s 12 o p ≡ none
+        no-names none p b = refl
+        no-names (some x) none b = refl
+        no-names (some x) (some y) b = absurd (true≢false b)
+
+        go : (r : Option (csm.Class × Text)) → field MCL .read (drop 4 s) ≡ r
             → fields head-row [] .read (drop 4 s) ≡ none
         go none r = rw r
-        go (some (c, t)) r = rw (class-place s c t r .is, names-none s 12 e)
+        go (some (c, t)) r = rw (class-read c t r, e ∙ no-names o p b)
 
-    pub read-named : length s ≤ 512 → (h : Head) → names-of (drop 12 s) ≡ names.Is h
-        → seen (read s) ≡ body (class-seen (field MCL .read (drop 4 s))) h (drop (22 + h .rcv + h .org) s)
+    pub read-nameless : names-at s 12 .there ≡ false → seen (read s) ≡ message-is.Nothing
+    unfolding names-at
+    read-nameless b =
+        without (taken-at RCV s 12) (taken-at ORG s (next-at RCV 12 (taken-at RCV s 12))) (names-read s 12) b
+
+    with-names : length s ≤ 512 → (o p : Option Text) → fields names-row [] .read (drop 12 s) ≡ both-names s 12 o p
+        → found o && found p ≡ true → let n = names-with 12 o p in
+        seen (read s) ≡ body (class-seen (taken-at MCL s 4)) (n .head) (n .next) (drop (n .next) s)
     unfolding read body
-    read-named l h e = go (field MCL .read (drop 4 s)) refl
+    with-names l none p e b = absurd (true≢false (sym b))
+    with-names l (some x) none e b = absurd (true≢false (sym b))
+    with-names l (some x) (some y) e b = go (field MCL .read (drop 4 s)) refl
       where
         f : fits s ≡ true
         f = true-within 1 512 (length s) (omega (arith, starts-fits (ascii "CSM(") s front)) l
 
-        go : (o : Option (csm.Class × Text)) → field MCL .read (drop 4 s) ≡ o
-            → seen (read s) ≡ body (class-seen o) h (drop (22 + h .rcv + h .org) s)
+        go : (r : Option (csm.Class × Text)) → field MCL .read (drop 4 s) ≡ r
+            → let n = names-with 12 (some x) (some y) in
+            seen (read s) ≡ body (class-seen (taken r)) (n .head) (n .next) (drop (n .next) s)
         go none r = read-none s (head-after s front ∙ rw r)
         go (some (c, t)) r =
-            let k = names-is s 12 h e in
-            let n : 12 + h .rcv + h .org + 10 ≡ 22 + h .rcv + h .org = omega arith in
-            let u = drop (12 + h .rcv + h .org + 10) s in
-            let z : head .read s ≡ some ((c, (k .rcv, (k .org, tt))), u) =
-            head-after s front ∙ rw (class-place s c t r .is, k .reads .is) in
+            let n = names-with 12 (some x) (some y) in
+            let u = drop (n .next) s in
+            let z : head .read s ≡ some ((c, (x, (y, tt))), u) = head-after s front ∙ rw (class-read c t r, e) in
             ap (λ (b : Bool). seen (cond b (whole message s) none)) f
             ∙ ap (λ (o : Option (CsmHead × Text)). seen (bind (bind o read-after) at-end)) z
-            ∙ seen-body (c, (k .rcv, (k .org, tt))) (read-body c u)
-            ∙ ap (λ (h : Head). message-seen h (whole-body c u)) (k .is)
-            ∙ ap (λ (o : Option csm.Class). message-seen h (bind o (λ k. whole-body k u))) (sym (class-back c))
-            ∙ ap (λ (n : ℕ). body (class-of c) h (drop n s)) n
+            ∙ seen-body c x y (read-body c u)
+            ∙ ap (λ (o : Option csm.Class). message-seen (n .head) (n .next) (bind o (λ k. whole-body k u)))
+            (sym (class-back c))
+
+    pub read-named : length s ≤ 512 → names-at s 12 .there ≡ true → let n = names-at s 12 in
+        seen (read s) ≡ body (class-seen (taken-at MCL s 4)) (n .head) (n .next) (drop (n .next) s)
+    unfolding names-at
+    read-named l b =
+        with-names l (taken-at RCV s 12) (taken-at ORG s (next-at RCV 12 (taken-at RCV s 12))) (names-read s 12) b

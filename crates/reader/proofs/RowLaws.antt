@@ -1,14 +1,22 @@
--- A step of a row: what the whole of a row reads, once its first field is read, or is not there.
-use mathlib.Core.Path.{_≡_, refl, ap, _∙_}
+-- A row from a place: what the whole of it reads, field by field.
+use mathlib.Core.Path.{_≡_, refl, sym, ap, _∙_}
 use mathlib.Core.Bool.{Bool, true, false, cond, _&&_}
-use mathlib.Core.List.{[], _∷_}
+use mathlib.Core.List.{[], _∷_, _++_, append-assoc}
 use mathlib.Core.Option.{Option, none, some}
-use Prim.Native.Nat.{ℕ}
+use Prim.Native.Nat.{ℕ, suc, _+_}
+use native.Mathlib.Omega.{arith}
 use lib.Dec.{eqb}
-use lib.ListN.{drop}
-use Rattle.octets.specs.Text.{Text, ascii, same}
-use Rattle.csm.specs.Format.{Format, bind, just, both, maybe, as-form, such-that, at-end, whole}
-use Rattle.fields.proofs.Within.{Next}
+use lib.ListN.{length, drop}
+use lib.Seq.{drop-drop, drop-at}
+use Rattle.octets.specs.Text.{Text, ascii, blank, same}
+use Rattle.csm.specs.Format.{Format, bind, just, as-form, such-that, at-end, whole}
+use Rattle.csm.specs.Fields.{Field, Contents, contents, tag, field}
+use Rattle.csm.specs.Fields.{MCL, RCV, ORG, SVR, KD, IV, EDK, CTP, CTR, ERF, MAC, EDC}
+use Rattle.csm.specs.Message.{Row, one, opt, Values, closed}
+use Rattle.csm.proofs.FieldLaws.{field-lawful}
+use Rattle.fields.specs.Seen.{taken, inner}
+use Rattle.reader.specs.Seen.{next-at}
+use Rattle.reader.specs.Stages.{taken-at}
 
 -- f of a value, if there is one
 abbrev pub map : {A B : Type 0} → (A → B) → Option A → Option B
@@ -52,27 +60,8 @@ such-whole {A} p c s = go (c .read s)
     go none = refl
     go (some (a, t)) = test a t (p a) ∙ last a t
 
--- ---- a row: its first field, then the rest
+-- ---- the end
 
--- an optional c is read at a place as v, and what follows starts at the place next
-pub data Takes {A : Type 0} (c : Format A) (s : Text) (at : ℕ) : Option A → ℕ → Type 0 where
-  missing : c .read (drop at s) ≡ none → Takes c s at none at
-  there : {a : A} {next : ℕ} → Next c s at a next → Takes c s at (some a) next
-
-module _ {A B : Type 0} (c : Format A) (d : Format B) (s : Text) (at : ℕ) where
-  pub both-stop : c .read (drop at s) ≡ none → whole (both c d) (drop at s) ≡ none
-  both-stop e = rw e
-
-  pub both-step : {a : A} {next : ℕ} → Next c s at a next
-      → whole (both c d) (drop at s) ≡ map (λ b. (a, b)) (whole d (drop next s))
-  both-step {a} {next} r = rw (r .is) (ends (λ (b : B). (a, b)) (d .read (drop next s)))
-
-  pub maybe-step : {v : Option A} {next : ℕ} → Takes c s at v next
-      → whole (maybe c d) (drop at s) ≡ map (λ b. (v, b)) (whole d (drop next s))
-  maybe-step (missing e) = rw e (ends (λ (b : B). (none, b)) (d .read (drop at s)))
-  maybe-step (there {a} {next} r) = rw (r .is) (ends (λ (b : B). (some a, b)) (d .read (drop next s)))
-
--- the end
 abbrev pub done : Bool → Option (Unit {0})
 done b = cond b (some tt) none
 
@@ -91,3 +80,89 @@ end-step (x ∷ y ∷ t) b e = more (eqb x 41) ∙ ap done e
     more : (b : Bool) → shut (cond (b && true) (some (y ∷ t)) none) ≡ done (b && false)
     more true = refl
     more false = refl
+
+-- ---- a row, of which the code asks field by field
+
+-- contents and the blank after them
+pub contents-inner : (f : Field) (a : Contents f) → contents f .print a ≡ inner f a ++ blank ∷ []
+contents-inner MCL a = refl
+contents-inner RCV a = refl
+contents-inner ORG a = refl
+contents-inner SVR a = refl
+contents-inner KD a = refl
+contents-inner IV a = refl
+contents-inner EDK a = refl
+contents-inner CTP a = refl
+contents-inner CTR a = refl
+contents-inner ERF a = refl
+contents-inner MAC a = refl
+contents-inner EDC a = refl
+
+-- a field at the front of what stands at a place: its contents, and what follows it
+pub record Stands (f : Field) (s : Text) (at : ℕ) (a : Contents f) (t : Text) : Type 0 where
+  pub contents : drop (at + length (tag f)) s ≡ inner f a ++ blank ∷ t
+  pub rest : drop (next-at f at (some a)) s ≡ t
+
+pub stands : (f : Field) (s : Text) (at : ℕ) (a : Contents f) (t : Text) → drop at s ≡ field f .print a ++ t
+    → Stands f s at a t
+stands f s at a t e =
+    let w = inner f a in
+    let u : drop (at + length (tag f)) s ≡ w ++ blank ∷ t =
+    sym (drop-drop (length (tag f)) at s)
+    ∙ ap (drop (length (tag f))) (e ∙ ap (λ (c : Text). (tag f ++ c) ++ t) (contents-inner f a) ∙ grouped (tag f) w t)
+    ∙ drop-at (tag f) (w ++ blank ∷ t) (length (tag f)) refl in
+    let m : at + length (tag f) + length w + 1 ≡ at + length (tag f) + suc (length w) = omega arith in
+    record {
+      contents = u;
+      rest = ap (λ (n : ℕ). drop n s) m ∙ sym (drop-drop (suc (length w)) (at + length (tag f)) s)
+          ∙ ap (drop (suc (length w))) u ∙ behind w;
+    }
+  where
+    grouped : (g w t : Text) → (g ++ (w ++ blank ∷ [])) ++ t ≡ g ++ (w ++ blank ∷ t)
+    grouped g w t = simp append-assoc
+
+    behind : (w : Text) → drop (suc (length w)) (w ++ blank ∷ t) ≡ t
+    behind [] = refl
+    behind (x ∷ w) = behind w
+
+-- a value that has to be there, before others
+abbrev pub need : {A B : Type 0} → Option A → Option B → Option (A × B)
+need none o = none
+need (some a) o = map (λ b. (a, b)) o
+
+-- what is read of a row at a place, each field where the one before it ends
+abbrev pub gather : (rs : Row) → Text → ℕ → Option (Values rs)
+gather [] s at = done (same (drop at s) (ascii ")"))
+gather (one f ∷ rs) s at = need (taken-at f s at) (gather rs s (next-at f at (taken-at f s at)))
+gather (opt f ∷ rs) s at = map (λ b. (taken-at f s at, b)) (gather rs s (next-at f at (taken-at f s at)))
+
+-- a field that was read, and what follows it by its place
+pub next-read : (f : Field) (s : Text) (at : ℕ) (a : Contents f) (t : Text) → field f .read (drop at s) ≡ some (a, t)
+    → field f .read (drop at s) ≡ some (a, drop (next-at f at (some a)) s)
+next-read f s at a t e =
+    e ∙ ap (λ (u : Text). some (a, u)) (sym (stands f s at a t (field-lawful f .back (drop at s) a t e .1) .rest))
+
+pub row-walk : (rs : Row) (s : Text) (at : ℕ) → whole (closed rs) (drop at s) ≡ gather rs s at
+row-walk [] s at = end-step (drop at s) (same (drop at s) (ascii ")")) refl
+row-walk (one f ∷ rs) s at = go (row-walk rs s) (field f .read (drop at s)) refl
+  where
+    go : ((n : ℕ) → whole (closed rs) (drop n s) ≡ gather rs s n) → (o : Option (Contents f × Text))
+        → field f .read (drop at s) ≡ o
+        → whole (closed (one f ∷ rs)) (drop at s) ≡ need (taken o) (gather rs s (next-at f at (taken o)))
+    go on none e = rw e
+    go on (some (a, t)) e =
+        let n = next-at f at (some a) in
+        rw (next-read f s at a t e)
+        (ends (λ (b : Values rs). (a, b)) (closed rs .read (drop n s)) ∙ ap (map (λ b. (a, b))) (on n))
+row-walk (opt f ∷ rs) s at = go (row-walk rs s) (field f .read (drop at s)) refl
+  where
+    go : ((n : ℕ) → whole (closed rs) (drop n s) ≡ gather rs s n) → (o : Option (Contents f × Text))
+        → field f .read (drop at s) ≡ o
+        → whole (closed (opt f ∷ rs)) (drop at s)
+        ≡ map (λ b. (taken o, b)) (gather rs s (next-at f at (taken o)))
+    go on none e =
+        rw e (ends (λ (b : Values rs). (none, b)) (closed rs .read (drop at s)) ∙ ap (map (λ b. (none, b))) (on at))
+    go on (some (a, t)) e =
+        let n = next-at f at (some a) in
+        rw (next-read f s at a t e)
+        (ends (λ (b : Values rs). (some a, b)) (closed rs .read (drop n s)) ∙ ap (map (λ b. (some a, b))) (on n))

@@ -7,7 +7,7 @@ use Rattle.octets.specs.Text.{Text}
 use Rattle.csm.specs.Fields as csm
 use Rattle.csm.specs.Message.{Body, rsi, ksm, rsm, esm, option, Reading, read}
 use Rattle.csm.specs.Message as csm-message
-use Rattle.reader.specs.Seen.{head-seen, rsi-seen, ksm-seen, rsm-seen, esm-seen, option-seen, body-seen, seen}
+use Rattle.reader.specs.Seen.{head-seen, body-place, rsi-seen, ksm-seen, rsm-seen, esm-seen, option-seen, body-seen, seen}
 use Rattle.reader.specs.declared.Rsi.{Rsi}
 use Rattle.reader.specs.declared.Ksm.{Ksm}
 use Rattle.reader.specs.declared.Rsm.{Rsm}
@@ -31,7 +31,7 @@ pub nothing-back : (t : Text) → seen (read t) ≡ message.Nothing → read t �
 unfolding seen
 nothing-back t e = go (read t) e
   where
-    by : (q : Reading) (b : Body) → q .body ≡ b → body-seen (head-seen q) b ≡ message.Nothing → some q ≡ none
+    by : (q : Reading) (b : Body) → q .body ≡ b → body-seen (head-seen q) (body-place q) b ≡ message.Nothing → some q ≡ none
     by q (rsi r) k e = never message.Nothing cc
     by q (ksm r) k e = never message.Nothing cc
     by q (rsm r) k e = never message.Nothing cc
@@ -45,13 +45,13 @@ nothing-back t e = go (read t) e
 -- ---- Rsi
 
 abbrev pub rsi-of : Reading → csm-message.Rsi → Rsi
-rsi-of q a = rsi-seen (head-seen q) a
+rsi-of q a = rsi-seen (head-seen q) (body-place q) a
 
 pub rsi-back : (t : Text) (m : Rsi) → seen (read t) ≡ message.Rsi m → Read-as rsi rsi-of t m
 unfolding seen
 rsi-back t m e = go (read t) refl e
   where
-    by : (q : Reading) → read t ≡ some q → (b : Body) → q .body ≡ b → body-seen (head-seen q) b ≡ message.Rsi m
+    by : (q : Reading) → read t ≡ some q → (b : Body) → q .body ≡ b → body-seen (head-seen q) (body-place q) b ≡ message.Rsi m
         → Read-as rsi rsi-of t m
     by q i (rsi r) k e = record { reading = q; value = r; is = i; body = k; seen = cc }
     by q i (ksm r) k e = never message.Nothing cc
@@ -66,13 +66,13 @@ rsi-back t m e = go (read t) refl e
 -- ---- Ksm
 
 abbrev pub ksm-of : Reading → csm-message.Ksm → Ksm
-ksm-of q a = ksm-seen (head-seen q) a
+ksm-of q a = ksm-seen (head-seen q) (body-place q) a
 
 pub ksm-back : (t : Text) (m : Ksm) → seen (read t) ≡ message.Ksm m → Read-as ksm ksm-of t m
 unfolding seen
 ksm-back t m e = go (read t) refl e
   where
-    by : (q : Reading) → read t ≡ some q → (b : Body) → q .body ≡ b → body-seen (head-seen q) b ≡ message.Ksm m
+    by : (q : Reading) → read t ≡ some q → (b : Body) → q .body ≡ b → body-seen (head-seen q) (body-place q) b ≡ message.Ksm m
         → Read-as ksm ksm-of t m
     by q i (rsi r) k e = never message.Nothing cc
     by q i (ksm r) k e = record { reading = q; value = r; is = i; body = k; seen = cc }
@@ -87,13 +87,13 @@ ksm-back t m e = go (read t) refl e
 -- ---- Rsm
 
 abbrev pub rsm-of : Reading → csm-message.Rsm → Rsm
-rsm-of q a = rsm-seen (head-seen q) a
+rsm-of q a = rsm-seen (head-seen q) (body-place q) a
 
 pub rsm-back : (t : Text) (m : Rsm) → seen (read t) ≡ message.Rsm m → Read-as rsm rsm-of t m
 unfolding seen
 rsm-back t m e = go (read t) refl e
   where
-    by : (q : Reading) → read t ≡ some q → (b : Body) → q .body ≡ b → body-seen (head-seen q) b ≡ message.Rsm m
+    by : (q : Reading) → read t ≡ some q → (b : Body) → q .body ≡ b → body-seen (head-seen q) (body-place q) b ≡ message.Rsm m
         → Read-as rsm rsm-of t m
     by q i (rsi r) k e = never message.Nothing cc
     by q i (ksm r) k e = never message.Nothing cc
@@ -108,13 +108,13 @@ rsm-back t m e = go (read t) refl e
 -- ---- Esm
 
 abbrev pub esm-of : Reading → csm-message.Esm → Esm
-esm-of q a = esm-seen (head-seen q) a
+esm-of q a = esm-seen (head-seen q) (body-place q) a
 
 pub esm-back : (t : Text) (m : Esm) → seen (read t) ≡ message.Esm m → Read-as esm esm-of t m
 unfolding seen
 esm-back t m e = go (read t) refl e
   where
-    by : (q : Reading) → read t ≡ some q → (b : Body) → q .body ≡ b → body-seen (head-seen q) b ≡ message.Esm m
+    by : (q : Reading) → read t ≡ some q → (b : Body) → q .body ≡ b → body-seen (head-seen q) (body-place q) b ≡ message.Esm m
         → Read-as esm esm-of t m
     by q i (rsi r) k e = never message.Nothing cc
     by q i (ksm r) k e = never message.Nothing cc
@@ -133,13 +133,13 @@ option-as a = option (a .0) (a .1)
 -- ---- Option
 
 abbrev pub option-of : Reading → csm.Class × Text → Rest
-option-of q a = option-seen (head-seen q) (a .0) (a .1)
+option-of q a = option-seen (head-seen q) (body-place q) (a .0) (a .1)
 
 pub option-back : (t : Text) (m : Rest) → seen (read t) ≡ message.Option m → Read-as option-as option-of t m
 unfolding seen
 option-back t m e = go (read t) refl e
   where
-    by : (q : Reading) → read t ≡ some q → (b : Body) → q .body ≡ b → body-seen (head-seen q) b ≡ message.Option m
+    by : (q : Reading) → read t ≡ some q → (b : Body) → q .body ≡ b → body-seen (head-seen q) (body-place q) b ≡ message.Option m
         → Read-as option-as option-of t m
     by q i (rsi r) k e = never message.Nothing cc
     by q i (ksm r) k e = never message.Nothing cc

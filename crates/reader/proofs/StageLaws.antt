@@ -1,305 +1,247 @@
--- What each stage of reading answers, from what its first field and its next stage answer.
-use mathlib.Core.Path.{_≡_, refl, ap, _∙_}
-use mathlib.Core.Bool.{Bool, true, false, cond, not, _&&_}
-use mathlib.Core.List.{[], _∷_}
+-- What each class is read as, from what the code has of its fields.
+use mathlib.Core.Path.{_≡_, refl, sym, ap, _∙_}
+use mathlib.Core.Bool.{Bool, true, false, cond, _&&_}
 use mathlib.Core.Option.{Option, none, some}
 use Prim.Native.Nat.{ℕ}
-use lib.ListN.{length, drop}
+use lib.ListN.{drop}
 use Rattle.octets.specs.Text.{Text, ascii, same}
 use Rattle.octets.specs.Part.{found}
-use Rattle.csm.specs.Format.{as-form, whole}
-use Rattle.csm.specs.Fields.{SVR, EDC, ERF, CTP, CTR, MAC, IV, EDK, KD, field, Contents, svr, kd, named, has-P}
+use Rattle.csm.specs.Format.{as-form}
+use Rattle.csm.specs.Fields.{SVR, EDC, ERF, CTP, CTR, MAC, IV, EDK, KD, tag, svr, erf, count}
 use Rattle.csm.specs.Fields as csm
 use Rattle.csm.specs.Message as csm-message
-use Rattle.csm.specs.Message.{Row, one, opt, Values, closed, rsi, ksm, rsm, esm, counts-with-P}
+use Rattle.csm.specs.Message.{closed, rsi, ksm, rsm, esm, counts-with-P}
 use Rattle.csm.specs.Message.{rsi-row, ksm-row, rsm-row, esm-row, rsi-record, rsi-values, ksm-record, ksm-values}
 use Rattle.csm.specs.Message.{rsm-record, rsm-values, esm-record, esm-values}
-use Rattle.fields.proofs.Within.{Next, Key-next}
-use Rattle.reader.specs.Seen.{optional, one-key, optional-key, body-seen}
-use Rattle.reader.specs.Stages.{ending-row, errors-row, sealed-row, tail-row, ending, errors, sealed, tail}
-use Rattle.reader.specs.Stages.{ending-seen, errors-seen, sealed-seen, tail-seen, agree, seen-as}
-use Rattle.reader.specs.Stages.{rsi-body, ksm-body, rsm-body, esm-body}
+use Rattle.fields.specs.Seen.{itself, check-text, number-or-zero, number-at, key-at, place-of}
+use Rattle.fields.specs.declared.Place.{Place}
+use Rattle.fields.specs.declared.NumberField.{NumberField}
+use Rattle.fields.specs.declared.KeyField.{KeyField}
+use Rattle.reader.specs.Seen.{span-at, next-at, optional, body-seen}
+use Rattle.reader.specs.Stages.{taken-at, numeral-of, optional-of, agree, seen-as, rsi-body, ksm-body, rsm-body, esm-body}
 use Rattle.reader.specs.declared.Head.{Head}
-use Rattle.reader.specs.declared.Optional.{Optional}
-use Rattle.reader.specs.declared.Key.{Key}
-use Rattle.fields.specs.declared.Kd.{Kd}
-use Rattle.reader.specs.declared.rows.CountAt.{CountAt}
-use Rattle.reader.specs.declared.rows.RunAt.{RunAt}
-use Rattle.reader.specs.declared.rows.KeyAt.{KeyAt}
-use Rattle.reader.specs.declared.rows.Ending.{Ending}
-use Rattle.reader.specs.declared.rows.Ending.the-variants as end
-use Rattle.reader.specs.declared.rows.Errors.{Errors}
-use Rattle.reader.specs.declared.rows.Errors.the-variants as err
-use Rattle.reader.specs.declared.rows.Sealed.{Sealed}
-use Rattle.reader.specs.declared.rows.Sealed.the-variants as seal
-use Rattle.reader.specs.declared.rows.Tail.{Tail}
-use Rattle.reader.specs.declared.rows.Tail.the-variants as tl
 use Rattle.reader.specs.declared.Message.{Message}
 use Rattle.reader.specs.declared.Message.the-variants as message
-use Rattle.reader.proofs.RowLaws.{map, done, passing, Takes, both-stop, both-step, maybe-step}
-use Rattle.reader.proofs.RowLaws.{end-step, form-whole, such-whole}
-use Rattle.reader.proofs.SeenLaws.{Count-taken, Run-taken, Key-taken}
+use Rattle.reader.proofs.RowLaws.{map, done, need, passing, row-walk, form-whole, such-whole}
 
--- ---- a row from a place, of which the code asks field by field
+-- ---- the fields that the code asks for, each at a place
 
-module _ (s : Text) (at : ℕ) (f : csm.Field) (rs : Row) where
-  pub row-stop : field f .read (drop at s) ≡ none → whole (closed (one f ∷ rs)) (drop at s) ≡ none
-  row-stop e = both-stop (field f) (closed rs) s at e
+-- the text ends at a place
+abbrev pub ended : Text → ℕ → Bool
+ended s at = same (drop at s) (ascii ")")
 
-  pub row-one : {a : Contents f} {next : ℕ} → Next (field f) s at a next
-      → whole (closed (one f ∷ rs)) (drop at s) ≡ map (λ b. (a, b)) (whole (closed rs) (drop next s))
-  row-one r = both-step (field f) (closed rs) s at r
+module _ (h : Head) (s : Text) where
+  -- SVR, CTP or CTR, ERF, MAC or EDC, KD, IV, EDK
+  abbrev pub svr-at : ℕ → NumberField
+  svr-at at = number-at (svr .text) at (tag SVR) (taken-at SVR s at)
 
-  pub row-opt : {v : Option (Contents f)} {next : ℕ} → Takes (field f) s at v next
-      → whole (closed (opt f ∷ rs)) (drop at s) ≡ map (λ b. (v, b)) (whole (closed rs) (drop next s))
-  row-opt t = maybe-step (field f) (closed rs) s at t
+  abbrev pub ctp-at : ℕ → NumberField
+  ctp-at at = number-at (count .text) at (tag CTP) (taken-at CTP s at)
 
--- ---- an optional EDC, then the end
+  abbrev pub ctr-at : ℕ → NumberField
+  ctr-at at = number-at (count .text) at (tag CTR) (taken-at CTR s at)
 
-pub ending-out : (v : Option ℕ) (b : Bool)
-    → ending-seen (map (λ u. (v, u)) (done b)) ≡ cond b (end.Is (optional v)) end.Nothing
-ending-out v true = refl
-ending-out v false = refl
+  abbrev pub erf-at : ℕ → NumberField
+  erf-at at = number-at (erf .text) at (tag ERF) (taken-at ERF s at)
 
-pub ending-step : (s : Text) (at : ℕ) {v : Option ℕ} {next : ℕ} → Takes (field EDC) s at v next
-    → (b : Bool) → same (drop next s) (ascii ")") ≡ b
-    → ending (drop at s) ≡ cond b (end.Is (optional v)) end.Nothing
-unfolding ending
-ending-step s at {v} {next} t b e =
-    ap ending-seen (row-opt s at EDC [] t ∙ ap (map (λ u. (v, u))) (end-step (drop next s) b e)) ∙ ending-out v b
+  abbrev pub mac-at : ℕ → NumberField
+  mac-at at = number-at check-text at (tag MAC) (taken-at MAC s at)
 
--- ---- RSI
+  abbrev pub edc-at : ℕ → NumberField
+  edc-at at = number-at check-text at (tag EDC) (taken-at EDC s at)
 
-abbrev pub rsi-join : Head → ℕ → ℕ → Ending → Message
-rsi-join h v n end.Nothing = message.Nothing
-rsi-join h v n (end.Is edc) = message.Rsi (record { head = h; service = v; length = n; edc = edc })
+  abbrev pub kd-field-at : ℕ → KeyField
+  kd-field-at at = key-at at (taken-at KD s at)
 
-pub rsi-out : (h : Head) (v : ℕ) (o : Option (Values ending-row))
-    → seen-as h rsi (map rsi-record (map (λ b. (v, b)) o)) ≡ rsi-join h v (length (svr .text v)) (ending-seen o)
-rsi-out h v none = refl
-rsi-out h v (some (edc, u)) = refl
+  abbrev pub iv-at : ℕ → Place
+  iv-at at = place-of itself at (tag IV) (taken-at IV s at)
 
-module _ (h : Head) (s : Text) (at : ℕ) where
-  pub rsi-stop : field SVR .read (drop at s) ≡ none → rsi-body h (drop at s) ≡ message.Nothing
+  abbrev pub edk-at : ℕ → Place
+  edk-at at = place-of itself at (tag EDK) (taken-at EDK s at)
+
+  -- ---- RSM
+
+  rsm-out : (at : ℕ) (o : Option ℕ) (b : Bool)
+      → seen-as h at rsm (map rsm-record (need o (done b)))
+      ≡ cond (found o && b) (message.Rsm (record { head = h; mac = record { value = number-or-zero o; span = span-at MAC at o } }))
+      message.Nothing
+  rsm-out at none b = refl
+  rsm-out at (some n) true = refl
+  rsm-out at (some n) false = refl
+
+  pub rsm-step : (at : ℕ) {m : NumberField} → m ≡ mac-at at
+      → (b : Bool) → m .place .there && ended s (m .place .next) ≡ b
+      → rsm-body h at (drop at s)
+      ≡ cond b (message.Rsm (record { head = h; mac = numeral-of m })) message.Nothing
+  unfolding rsm-body
+  rsm-step at {m} e b q =
+      let of : NumberField → Message =
+      λ m. cond (m .place .there && ended s (m .place .next))
+      (message.Rsm (record { head = h; mac = numeral-of m })) message.Nothing in
+      ap (seen-as h at rsm)
+      (form-whole rsm-record rsm-values (closed rsm-row) (drop at s) ∙ ap (map rsm-record) (row-walk rsm-row s at))
+      ∙ rsm-out at (taken-at MAC s at) (ended s (next-at MAC at (taken-at MAC s at))) ∙ ap of (sym e)
+      ∙ ap (λ (b : Bool). cond b (message.Rsm (record { head = h; mac = numeral-of m }))
+      message.Nothing) q
+
+  -- ---- RSI
+
+  rsi-out : (at : ℕ) (o p : Option ℕ) (b : Bool)
+      → seen-as h at rsi (map rsi-record (need o (map (λ b. (p, b)) (done b))))
+      ≡ cond (found o && b)
+      (message.Rsi (record {
+        head = h;
+        service = number-or-zero o;
+        svr = span-at SVR at o;
+        edc = optional p (span-at EDC (next-at SVR at o) p);
+      }))
+      message.Nothing
+  rsi-out at none p b = refl
+  rsi-out at (some n) p true = refl
+  rsi-out at (some n) p false = refl
+
+  abbrev pub rsi-join : NumberField → NumberField → Message
+  rsi-join v e =
+      message.Rsi (record { head = h; service = v .value; svr = v .place .span; edc = optional-of e })
+
+  pub rsi-step : (at : ℕ) {v e : NumberField} → v ≡ svr-at at → e ≡ edc-at (v .place .next)
+      → (b : Bool) → v .place .there && ended s (e .place .next) ≡ b
+      → rsi-body h at (drop at s) ≡ cond b (rsi-join v e) message.Nothing
   unfolding rsi-body
-  rsi-stop e =
-      ap (seen-as h rsi)
-      (form-whole rsi-record rsi-values (closed rsi-row) (drop at s)
-      ∙ ap (map rsi-record) (row-stop s at SVR ending-row e))
+  rsi-step at {v} {e} i j b q =
+      let of : NumberField → NumberField → Message =
+      λ v e. cond (v .place .there && ended s (e .place .next)) (rsi-join v e) message.Nothing in
+      let k = j ∙ ap (λ (v : NumberField). edc-at (v .place .next)) i in
+      let o = taken-at SVR s at in
+      let p = taken-at EDC s (next-at SVR at o) in
+      ap (seen-as h at rsi)
+      (form-whole rsi-record rsi-values (closed rsi-row) (drop at s) ∙ ap (map rsi-record) (row-walk rsi-row s at))
+      ∙ rsi-out at o p (ended s (next-at EDC (next-at SVR at o) p)) ∙ (λ x. of (sym i x) (sym k x))
+      ∙ ap (λ (b : Bool). cond b (rsi-join v e) message.Nothing) q
 
-  pub rsi-step : (v n next : ℕ) → length (svr .text v) ≡ n → Next (field SVR) s at v next
-      → (e : Ending) → ending (drop next s) ≡ e → rsi-body h (drop at s) ≡ rsi-join h v n e
-  unfolding rsi-body ending
-  rsi-step v n next l r e q =
-      ap (seen-as h rsi)
-      (form-whole rsi-record rsi-values (closed rsi-row) (drop at s)
-      ∙ ap (map rsi-record) (row-one s at SVR ending-row r))
-      ∙ rsi-out h v (whole (closed ending-row) (drop next s))
-      ∙ ap (λ (n : ℕ). rsi-join h v n (ending (drop next s))) l ∙ ap (rsi-join h v n) q
+  -- ---- ESM
 
--- ---- RSM
+  abbrev pub esm-join : NumberField → NumberField → NumberField → NumberField → Message
+  esm-join c r l e =
+      message.Esm (record {
+        head = h;
+        ctp = optional-of c;
+        ctr = optional-of r;
+        erf = numeral-of l;
+        edc = optional-of e;
+      })
 
-pub rsm-out : (h : Head) (v : ℕ) (b : Bool)
-    → seen-as h rsm (map rsm-record (map (λ u. (v, u)) (done b)))
-    ≡ cond b (message.Rsm (record { head = h; mac = v })) message.Nothing
-rsm-out h v true = refl
-rsm-out h v false = refl
+  esm-cond : (at : ℕ) (r : csm-message.Esm) (b : Bool)
+      → seen-as h at esm (cond b (some r) none) ≡ cond b (body-seen h at (esm r)) message.Nothing
+  esm-cond at r true = refl
+  esm-cond at r false = refl
 
-module _ (h : Head) (s : Text) (at : ℕ) where
-  pub rsm-stop : field MAC .read (drop at s) ≡ none → rsm-body h (drop at s) ≡ message.Nothing
-  unfolding rsm-body
-  rsm-stop e =
-      ap (seen-as h rsm)
-      (form-whole rsm-record rsm-values (closed rsm-row) (drop at s)
-      ∙ ap (map rsm-record) (row-stop s at MAC [] e))
+  esm-out : (at : ℕ) (c r l e : Option ℕ) (b : Bool)
+      → let m = next-at CTP at c in let n = next-at CTR m r in let k = next-at ERF n l in
+      seen-as h at esm (passing counts-with-P
+      (map esm-record (map (λ b. (c, b)) (map (λ b. (r, b)) (need l (map (λ b. (e, b)) (done b)))))))
+      ≡ cond ((found l && b) && agree (number-or-zero l) (found c) (found r))
+      (message.Esm (record {
+        head = h;
+        ctp = optional c (span-at CTP at c);
+        ctr = optional r (span-at CTR m r);
+        erf = record { value = number-or-zero l; span = span-at ERF n l };
+        edc = optional e (span-at EDC k e);
+      }))
+      message.Nothing
+  unfolding agree
+  esm-out at c r none e b = refl
+  esm-out at c r (some n) e false = refl
+  esm-out at c r (some n) e true =
+      let m : csm-message.Esm = record { ctp = c; ctr = r; erf = n; edc = e } in esm-cond at m (counts-with-P m)
 
-  pub rsm-step : (v next : ℕ) → Next (field MAC) s at v next → (b : Bool) → same (drop next s) (ascii ")") ≡ b
-      → rsm-body h (drop at s) ≡ cond b (message.Rsm (record { head = h; mac = v })) message.Nothing
-  unfolding rsm-body
-  rsm-step v next r b e =
-      ap (seen-as h rsm)
-      (form-whole rsm-record rsm-values (closed rsm-row) (drop at s)
-      ∙ ap (map rsm-record) (row-one s at MAC [] r ∙ ap (map (λ u. (v, u))) (end-step (drop next s) b e)))
-      ∙ rsm-out h v b
-
--- ---- ERF and an optional EDC, then the end
-
-abbrev pub errors-join : ℕ → Ending → Errors
-errors-join v end.Nothing = err.Nothing
-errors-join v (end.Is edc) = err.Is v edc
-
-pub errors-out : (v : ℕ) (o : Option (Values ending-row))
-    → errors-seen (map (λ b. (v, b)) o) ≡ errors-join v (ending-seen o)
-errors-out v none = refl
-errors-out v (some (edc, u)) = refl
-
-module _ (s : Text) (at : ℕ) where
-  pub errors-stop : field ERF .read (drop at s) ≡ none → errors (drop at s) ≡ err.Nothing
-  unfolding errors
-  errors-stop e = ap errors-seen (row-stop s at ERF ending-row e)
-
-  pub errors-step : (v next : ℕ) → Next (field ERF) s at v next
-      → (e : Ending) → ending (drop next s) ≡ e → errors (drop at s) ≡ errors-join v e
-  unfolding errors ending
-  errors-step v next r e q =
-      ap errors-seen (row-one s at ERF ending-row r) ∙ errors-out v (whole (closed ending-row) (drop next s))
-      ∙ ap (errors-join v) q
-
--- ---- ESM
-
-abbrev pub esm-join : Head → Optional → Optional → Errors → Message
-esm-join h ctp ctr err.Nothing = message.Nothing
-esm-join h ctp ctr (err.Is erf edc) =
-    cond (agree erf (ctp .there) (ctr .there))
-    (message.Esm (record { head = h; ctp = ctp; ctr = ctr; erf = erf; edc = edc })) message.Nothing
-
-pub found-there : (v : Option ℕ) → found v ≡ optional v .there
-found-there none = refl
-found-there (some n) = refl
-
-pub esm-cond : (h : Head) (r : csm-message.Esm) (b : Bool)
-    → seen-as h esm (cond b (some r) none) ≡ cond b (body-seen h (esm r)) message.Nothing
-esm-cond h r true = refl
-esm-cond h r false = refl
-
-pub esm-agrees : (r : csm-message.Esm)
-    → counts-with-P r ≡ agree (r .erf) (optional (r .ctp) .there) (optional (r .ctr) .there)
-unfolding agree
-esm-agrees r =
-    let p = found-there (r .ctp) in
-    let q = found-there (r .ctr) in
-    λ i. cond (has-P (r .erf)) (p i && q i) (not (p i) && not (q i))
-
-pub esm-out : (h : Head) (ctp ctr : Option ℕ) (o : Option (Values errors-row))
-    → seen-as h esm (passing counts-with-P (map esm-record (map (λ b. (ctp, b)) (map (λ b. (ctr, b)) o))))
-    ≡ esm-join h (optional ctp) (optional ctr) (errors-seen o)
-esm-out h ctp ctr none = refl
-esm-out h ctp ctr (some (erf, (edc, u))) =
-    let r : csm-message.Esm = record { ctp = ctp; ctr = ctr; erf = erf; edc = edc } in
-    esm-cond h r (counts-with-P r)
-    ∙ ap (λ (b : Bool). cond b (body-seen h (esm r)) message.Nothing) (esm-agrees r)
-
-module _ (h : Head) (s : Text) (at : ℕ) {p q : CountAt} (t : Count-taken (field CTP) s at p)
-    (u : Count-taken (field CTR) s (p .next) q) where
-  pub esm-step : (e : Errors) → errors (drop (q .next) s) ≡ e
-      → esm-body h (drop at s) ≡ esm-join h (p .count) (q .count) e
-  unfolding esm-body errors
-  esm-step e z =
-      let ctp = t .value in
-      let ctr = u .value in
-      ap (seen-as h esm)
+  pub esm-step : (at : ℕ) {c r l e : NumberField} → c ≡ ctp-at at → r ≡ ctr-at (c .place .next)
+      → l ≡ erf-at (r .place .next) → e ≡ edc-at (l .place .next)
+      → (b : Bool) → (l .place .there && ended s (e .place .next))
+      && agree (l .value) (c .place .there) (r .place .there) ≡ b
+      → esm-body h at (drop at s) ≡ cond b (esm-join c r l e) message.Nothing
+  unfolding esm-body
+  esm-step at {c} {r} {l} {e} i₁ e₂ e₃ e₄ b q =
+      let of : NumberField → NumberField → NumberField → NumberField → Message =
+      λ c r l e. cond ((l .place .there && ended s (e .place .next))
+      && agree (l .value) (c .place .there) (r .place .there)) (esm-join c r l e) message.Nothing in
+      let i₂ = e₂ ∙ ap (λ (c : NumberField). ctr-at (c .place .next)) i₁ in
+      let i₃ = e₃ ∙ ap (λ (c : NumberField). erf-at (c .place .next)) i₂ in
+      let i₄ = e₄ ∙ ap (λ (c : NumberField). edc-at (c .place .next)) i₃ in
+      let o₁ = taken-at CTP s at in
+      let n₂ = next-at CTP at o₁ in
+      let o₂ = taken-at CTR s n₂ in
+      let n₃ = next-at CTR n₂ o₂ in
+      let o₃ = taken-at ERF s n₃ in
+      let n₄ = next-at ERF n₃ o₃ in
+      let o₄ = taken-at EDC s n₄ in
+      ap (seen-as h at esm)
       (such-whole counts-with-P (as-form esm-record esm-values (closed esm-row)) (drop at s)
-      ∙ ap (passing counts-with-P)
-      (form-whole esm-record esm-values (closed esm-row) (drop at s)
-      ∙ ap (map esm-record)
-      (row-opt s at CTP (opt CTR ∷ errors-row) (t .takes)
-      ∙ ap (map (λ b. (ctp, b))) (row-opt s (p .next) CTR errors-row (u .takes)))))
-      ∙ esm-out h ctp ctr (whole (closed errors-row) (drop (q .next) s))
-      ∙ ap (esm-join h (optional ctp) (optional ctr)) z ∙ (λ i. esm-join h (t .is i) (u .is i) e)
+      ∙ ap (passing counts-with-P) (form-whole esm-record esm-values (closed esm-row) (drop at s)
+      ∙ ap (map esm-record) (row-walk esm-row s at)))
+      ∙ esm-out at o₁ o₂ o₃ o₄ (ended s (next-at EDC n₄ o₄))
+      ∙ (λ x. of (sym i₁ x) (sym i₂ x) (sym i₃ x) (sym i₄ x))
+      ∙ ap (λ (b : Bool). cond b (esm-join c r l e) message.Nothing) q
 
-  pub esm-decided : (erf : ℕ) (edc : Optional) → errors (drop (q .next) s) ≡ err.Is erf edc
-      → (b : Bool) → agree erf (p .count .there) (q .count .there) ≡ b
-      → esm-body h (drop at s)
-      ≡ cond b (message.Esm (record { head = h; ctp = p .count; ctr = q .count; erf = erf; edc = edc })) message.Nothing
-  esm-decided erf edc z b e =
-      let m = message.Esm (record { head = h; ctp = p .count; ctr = q .count; erf = erf; edc = edc }) in
-      esm-step (err.Is erf edc) z ∙ ap (λ (b : Bool). cond b m message.Nothing) e
+  -- ---- KSM
 
--- ---- CTP and MAC, then the end
+  abbrev pub ksm-join : KeyField → KeyField → Place → Place → NumberField → NumberField → Message
+  ksm-join k j i d c m =
+      message.Ksm (record {
+        head = h;
+        first = k .kd;
+        two = j .place .there;
+        second = j .kd;
+        iv = i .span;
+        edk = d .span;
+        ctp = numeral-of c;
+        mac = numeral-of m;
+      })
 
-pub sealed-out : (v m : ℕ) (b : Bool)
-    → sealed-seen (map (λ b. (v, b)) (map (λ u. (m, u)) (done b))) ≡ cond b (seal.Is v m) seal.Nothing
-sealed-out v m true = refl
-sealed-out v m false = refl
+  ksm-out : (at : ℕ) (k j : Option csm.Kd) (i d : Option Text) (c m : Option ℕ) (b : Bool)
+      → let n₂ = next-at KD at k in let n₃ = next-at KD n₂ j in let n₄ = next-at IV n₃ i in
+      let n₅ = next-at EDK n₄ d in let n₆ = next-at CTP n₅ c in
+      seen-as h at ksm (map ksm-record (need k (map (λ b. (j, b)) (map (λ b. (i, b)) (map (λ b. (d, b))
+      (need c (need m (done b))))))))
+      ≡ cond (found k && (found c && (found m && b)))
+      (ksm-join (key-at at k) (key-at n₂ j) (place-of itself n₃ (tag IV) i) (place-of itself n₄ (tag EDK) d)
+      (number-at (count .text) n₅ (tag CTP) c) (number-at check-text n₆ (tag MAC) m))
+      message.Nothing
+  ksm-out at none j i d c m b = refl
+  ksm-out at (some k) j i d none m b = refl
+  ksm-out at (some k) j i d (some c) none b = refl
+  ksm-out at (some k) j i d (some c) (some m) false = refl
+  ksm-out at (some k) none i d (some c) (some m) true = refl
+  ksm-out at (some k) (some j) i d (some c) (some m) true = refl
 
-module _ (s : Text) (at : ℕ) where
-  pub sealed-stop : field CTP .read (drop at s) ≡ none → sealed (drop at s) ≡ seal.Nothing
-  unfolding sealed
-  sealed-stop e = ap sealed-seen (row-stop s at CTP (one MAC ∷ []) e)
-
-  module _ (v mid : ℕ) (r : Next (field CTP) s at v mid) where
-    pub sealed-open : field MAC .read (drop mid s) ≡ none → sealed (drop at s) ≡ seal.Nothing
-    unfolding sealed
-    sealed-open e =
-        ap sealed-seen
-        (row-one s at CTP (one MAC ∷ []) r ∙ ap (map (λ b. (v, b))) (row-stop s mid MAC [] e))
-
-    pub sealed-step : (m next : ℕ) → Next (field MAC) s mid m next
-        → (b : Bool) → same (drop next s) (ascii ")") ≡ b
-        → sealed (drop at s) ≡ cond b (seal.Is v m) seal.Nothing
-    unfolding sealed
-    sealed-step m next q b e =
-        ap sealed-seen
-        (row-one s at CTP (one MAC ∷ []) r
-        ∙ ap (map (λ b. (v, b))) (row-one s mid MAC [] q ∙ ap (map (λ u. (m, u))) (end-step (drop next s) b e)))
-        ∙ sealed-out v m b
-
--- ---- IV and EDK, both optional, CTP and MAC, then the end
-
-abbrev pub tail-join : ℕ → ℕ → Sealed → Tail
-tail-join i e seal.Nothing = tl.Nothing
-tail-join i e (seal.Is ctp mac) = tl.Is i e ctp mac
-
-pub tail-out : (iv edk : Option Text) (o : Option (Values sealed-row))
-    → tail-seen (map (λ b. (iv, b)) (map (λ b. (edk, b)) o))
-    ≡ tail-join (length (named iv)) (length (named edk)) (sealed-seen o)
-tail-out iv edk none = refl
-tail-out iv edk (some (ctp, (mac, u))) = refl
-
-pub tail-step : (s : Text) (at : ℕ) {p q : RunAt} → Run-taken (field IV) s at p
-    → Run-taken (field EDK) s (p .next) q → (e : Sealed) → sealed (drop (q .next) s) ≡ e
-    → tail (drop at s) ≡ tail-join (p .length) (q .length) e
-unfolding tail sealed
-tail-step s at {p} {q} t u e z =
-    let iv = t .value in
-    let edk = u .value in
-    ap tail-seen
-    (row-opt s at IV (opt EDK ∷ sealed-row) (t .takes)
-    ∙ ap (map (λ b. (iv, b))) (row-opt s (p .next) EDK sealed-row (u .takes)))
-    ∙ tail-out iv edk (whole (closed sealed-row) (drop (q .next) s))
-    ∙ ap (tail-join (length (named iv)) (length (named edk))) z ∙ (λ i. tail-join (t .size i) (u .size i) e)
-
--- ---- KSM
-
-abbrev pub ksm-join : Head → Key → Bool → Key → Tail → Message
-ksm-join h k two j tl.Nothing = message.Nothing
-ksm-join h k two j (tl.Is iv edk ctp mac) =
-    message.Ksm (record {
-      head = h;
-      first = k;
-      two = two;
-      second = j;
-      iv = iv;
-      edk = edk;
-      ctp = ctp;
-      mac = mac;
-    })
-
-pub ksm-out : (h : Head) (k : csm.Kd) (j : Option csm.Kd) (o : Option (Values tail-row))
-    → seen-as h ksm (map ksm-record (map (λ b. (k, b)) (map (λ b. (j, b)) o)))
-    ≡ ksm-join h (one-key k) (found j) (optional-key j) (tail-seen o)
-ksm-out h k j none = refl
-ksm-out h k j (some (iv, (edk, (ctp, (mac, u))))) = refl
-
-module _ (h : Head) (s : Text) (at : ℕ) where
-  pub ksm-stop : field KD .read (drop at s) ≡ none → ksm-body h (drop at s) ≡ message.Nothing
+  pub ksm-step : (at : ℕ) {k j : KeyField} {i d : Place} {c m : NumberField} → k ≡ kd-field-at at
+      → j ≡ kd-field-at (k .place .next) → i ≡ iv-at (j .place .next) → d ≡ edk-at (i .next) → c ≡ ctp-at (d .next)
+      → m ≡ mac-at (c .place .next)
+      → (b : Bool) → k .place .there && (c .place .there && (m .place .there && ended s (m .place .next))) ≡ b
+      → ksm-body h at (drop at s) ≡ cond b (ksm-join k j i d c m) message.Nothing
   unfolding ksm-body
-  ksm-stop e =
-      ap (seen-as h ksm)
-      (form-whole ksm-record ksm-values (closed ksm-row) (drop at s)
-      ∙ ap (map ksm-record) (row-stop s at KD (opt KD ∷ tail-row) e))
-
-  pub ksm-step : {k : Kd} {n mid : ℕ} {q : KeyAt} → Key-next s at k n mid → Key-taken s mid q
-      → (e : Tail) → tail (drop (q .next) s) ≡ e
-      → ksm-body h (drop at s) ≡ ksm-join h (record { kd = k; length = n }) (q .there) (q .key) e
-  unfolding ksm-body tail
-  ksm-step {mid = mid} {q = q} r t e z =
-      let j = t .value in
-      ap (seen-as h ksm)
-      (form-whole ksm-record ksm-values (closed ksm-row) (drop at s)
-      ∙ ap (map ksm-record)
-      (row-one s at KD (opt KD ∷ tail-row) (r .reads)
-      ∙ ap (map (λ b. (r .value, b))) (row-opt s mid KD tail-row (t .takes))))
-      ∙ ksm-out h (r .value) j (whole (closed tail-row) (drop (q .next) s))
-      ∙ ap (ksm-join h (one-key (r .value)) (found j) (optional-key j)) z
-      ∙ (λ i. ksm-join h (record { kd = r .same i; length = r .size i }) (t .found i) (t .is i) e)
+  ksm-step at {k} {j} {i} {d} {c} {m} i₁ e₂ e₃ e₄ e₅ e₆ b q =
+      let of : KeyField → KeyField → Place → Place → NumberField → NumberField → Message =
+      λ k j i d c m. cond (k .place .there && (c .place .there && (m .place .there && ended s (m .place .next))))
+      (ksm-join k j i d c m) message.Nothing in
+      let i₂ = e₂ ∙ ap (λ (k : KeyField). kd-field-at (k .place .next)) i₁ in
+      let i₃ = e₃ ∙ ap (λ (k : KeyField). iv-at (k .place .next)) i₂ in
+      let i₄ = e₄ ∙ ap (λ (p : Place). edk-at (p .next)) i₃ in
+      let i₅ = e₅ ∙ ap (λ (p : Place). ctp-at (p .next)) i₄ in
+      let i₆ = e₆ ∙ ap (λ (n : NumberField). mac-at (n .place .next)) i₅ in
+      let o₁ = taken-at KD s at in
+      let n₂ = next-at KD at o₁ in
+      let o₂ = taken-at KD s n₂ in
+      let n₃ = next-at KD n₂ o₂ in
+      let o₃ = taken-at IV s n₃ in
+      let n₄ = next-at IV n₃ o₃ in
+      let o₄ = taken-at EDK s n₄ in
+      let n₅ = next-at EDK n₄ o₄ in
+      let o₅ = taken-at CTP s n₅ in
+      let n₆ = next-at CTP n₅ o₅ in
+      let o₆ = taken-at MAC s n₆ in
+      ap (seen-as h at ksm)
+      (form-whole ksm-record ksm-values (closed ksm-row) (drop at s) ∙ ap (map ksm-record) (row-walk ksm-row s at))
+      ∙ ksm-out at o₁ o₂ o₃ o₄ o₅ o₆ (ended s (next-at MAC n₆ o₆))
+      ∙ (λ x. of (sym i₁ x) (sym i₂ x) (sym i₃ x) (sym i₄ x) (sym i₅ x) (sym i₆ x))
+      ∙ ap (λ (b : Bool). cond b (ksm-join k j i d c m) message.Nothing) q

@@ -1,4 +1,3 @@
 pub mod Seen
 pub mod Stages
-pub mod Parts
 pub mod Claims

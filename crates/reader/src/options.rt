@@ -4,7 +4,9 @@ use super::Message;
 use super::Rest;
 use super::rows;
 use fields::Class;
+use octets::Span;
 ghost use mathlib.Core.Path.{_≡_};
+ghost use mathlib.Core.Bool.{_||_};
 ghost use lib.ListN.{drop};
 ghost use Rattle.octets.specs.Text.{all};
 ghost use Rattle.csm.specs.Message.{text-char, starts-any, ksm-options, rsi-options};
@@ -62,7 +64,7 @@ fn is_rest(s: &[u8]) -> bool
 
 // A rest up to the closing parenthesis that ends the text.
 pub fn rest_at(text: &[u8], at: usize, class: Class, head: Head) -> Message
-    ensures { λ r. ⌜ r ≡ stages.rest-body class head (drop at (now (text .entry))) ⌝ }
+    ensures { λ r. ⌜ r ≡ stages.rest-body class head at (drop at (now (text .entry))) ⌝ }
 {
     let end = octets::until(text, at, b')');
     if text.len() <= end {
@@ -72,53 +74,46 @@ pub fn rest_at(text: &[u8], at: usize, class: Class, head: Head) -> Message
         return Message::Nothing;
     }
     if is_rest(&text[at..end]) {
-        return Message::Option(Rest {
-            head,
-            class,
+        let rest = Span {
+            at,
             length: end - at,
-        });
+        };
+        return Message::Option(Rest { head, class, rest });
     }
     Message::Nothing
+}
+
+// Whether either holds.
+fn either(a: bool, b: bool) -> bool
+    ensures { λ r. ⌜ r ≡ a || b ⌝ }
+{
+    if a { true } else { b }
 }
 
 // Whether a tag that makes an RSI an option stands there.
 fn rsi_option(text: &[u8], at: usize) -> bool
     ensures { λ r. ⌜ r ≡ starts-any rsi-options (drop at (now (text .entry))) ⌝ }
 {
-    if octets::starts(text, at, b"IDU/") {
-        return true;
-    }
-    octets::starts(text, at, b"IDC/")
+    let idu = octets::starts(text, at, b"IDU/");
+    either(idu, octets::starts(text, at, b"IDC/"))
 }
 
 // Whether a tag that makes a KSM an option stands there.
 fn ksm_option(text: &[u8], at: usize) -> bool
     ensures { λ r. ⌜ r ≡ starts-any ksm-options (drop at (now (text .entry))) ⌝ }
 {
-    if octets::starts(text, at, b"IDC/") {
-        return true;
-    }
-    if octets::starts(text, at, b"NOS/") {
-        return true;
-    }
-    if octets::starts(text, at, b"KK/") {
-        return true;
-    }
-    if octets::starts(text, at, b"*KK/") {
-        return true;
-    }
-    if octets::starts(text, at, b"KKU/") {
-        return true;
-    }
-    if octets::starts(text, at, b"*KKU/") {
-        return true;
-    }
-    octets::starts(text, at, b"KDU/")
+    let mut any = octets::starts(text, at, b"KDU/");
+    any = either(octets::starts(text, at, b"*KKU/"), any);
+    any = either(octets::starts(text, at, b"KKU/"), any);
+    any = either(octets::starts(text, at, b"*KK/"), any);
+    any = either(octets::starts(text, at, b"KK/"), any);
+    any = either(octets::starts(text, at, b"NOS/"), any);
+    either(octets::starts(text, at, b"IDC/"), any)
 }
 
 // An RSI's fields after its head, or an option's rest.
 pub fn rsi_or_option(text: &[u8], at: usize, head: Head) -> Message
-    ensures { λ r. ⌜ r ≡ stages.body (Class.Rsi) head (drop at (now (text .entry))) ⌝ }
+    ensures { λ r. ⌜ r ≡ stages.body (Class.Rsi) head at (drop at (now (text .entry))) ⌝ }
 {
     if rsi_option(text, at) {
         return rest_at(text, at, Class::Rsi, head);
@@ -128,7 +123,7 @@ pub fn rsi_or_option(text: &[u8], at: usize, head: Head) -> Message
 
 // A KSM's fields after its head, or an option's rest.
 pub fn ksm_or_option(text: &[u8], at: usize, head: Head) -> Message
-    ensures { λ r. ⌜ r ≡ stages.body (Class.Ksm) head (drop at (now (text .entry))) ⌝ }
+    ensures { λ r. ⌜ r ≡ stages.body (Class.Ksm) head at (drop at (now (text .entry))) ⌝ }
 {
     if ksm_option(text, at) {
         return rest_at(text, at, Class::Ksm, head);

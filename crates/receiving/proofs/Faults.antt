@@ -9,12 +9,11 @@ use lib.Dec.{eqb}
 use lib.ListN.{length}
 use borrow.Author.Tests.{ne-eqb}
 use Rattle.octets.specs.Text.{Text}
-use Rattle.octets.specs.Part.{found}
+use Rattle.octets.specs.Part.{found, part}
 use Rattle.keying.specs.Date.{is-date}
 use Rattle.csm.specs.Fields.{nonempty}
 use Rattle.csm.specs.Message.{Ksm}
 use Rattle.reader.specs.declared.Ksm as reader
-use Rattle.reader.specs.Parts as parts
 use Rattle.partner.specs.declared.KeySet.{KeySet}
 use Rattle.partner.specs.declared.Entry.{Entry}
 use Rattle.partner.specs.Entry.{keys-in}
@@ -113,23 +112,23 @@ module _ (set : KeySet) (m : Ksm) (iv edk : Text) (i : m .iv ≡ nonempty iv) (d
 
 -- in the code's values: the value of the IV, the three letters, what is handed out
 module _ (e : Entry) (set : KeySet) (m : reader.Ksm) (t : Text) (v : Value)
-    (is : v ≡ value-of (iv-value (keys-in set) (parts.iv m t))) where
+    (is : v ≡ value-of (iv-value (keys-in set) (part t (m .iv)))) where
   -- the sum of the letters is the faults of the steps
-  pub faults-same : (x y z : ℕ) → x ≡ when (bad-format (parts.iv m t) v (parts.edk m t)) F
-      → y ≡ when (bad-mac (keys-in set) t (m .mac)) M → z ≡ when (steps.bad-count (e .expected) (m .ctp)) P
+  pub faults-same : (x y z : ℕ) → x ≡ when (bad-format (part t (m .iv)) v (part t (m .edk))) F
+      → y ≡ when (bad-mac (keys-in set) t (m .mac .value)) M → z ≡ when (steps.bad-count (e .receiving .expected) (m .ctp .value)) P
       → x + (y + z) ≡ faults e set t (ksm-in m t)
   unfolding faults ksm-in bad-mac steps.bad-mac
   faults-same x y z format mac count =
-      let same = format-same set (ksm-in m t) (parts.iv m t) (parts.edk m t) refl refl in
+      let same = format-same set (ksm-in m t) (part t (m .iv)) (part t (m .edk)) refl refl in
       let f : x ≡ when (steps.bad-format set (ksm-in m t)) F =
-      format ∙ ap (λ (u : Value). when (bad-format (parts.iv m t) u (parts.edk m t)) F) is
+      format ∙ ap (λ (u : Value). when (bad-format (part t (m .iv)) u (part t (m .edk))) F) is
       ∙ ap (λ (b : Bool). when b F) same in
       λ i. f i + (mac i + count i)
 
   -- what is handed out is what they tell
-  pub told-same : Ksm-read m t → handed-out v (parts.edk m t)
+  pub told-same : Ksm-read m t → handed-out v (part t (m .edk))
       ≡ report (success [] (keys (iv-of set (ksm-in m t)) (ksm-in m t .edk)))
   unfolding ksm-in
   told-same good =
-      ap (λ (u : Value). handed-out u (parts.edk m t)) is
-      ∙ handed-same set (ksm-in m t) (parts.iv m t) (parts.edk m t) refl refl (date-same m t good)
+      ap (λ (u : Value). handed-out u (part t (m .edk))) is
+      ∙ handed-same set (ksm-in m t) (part t (m .iv)) (part t (m .edk)) refl refl (date-same m t good)

@@ -10,7 +10,7 @@ use Rattle.reader.specs.declared.Ksm as reader
 use Rattle.messages.specs.declared.Counts.{Counts}
 use Rattle.partner.specs.declared.KeySet.{KeySet}
 use Rattle.partner.specs.declared.Entry.{Entry}
-use Rattle.partner.specs.Changes.{accepted}
+use Rattle.partner.specs.Changes.{with-receiving, accepted}
 use Rattle.partner.specs.Legal.{legal}
 use Rattle.calls.specs.Outcome.{done, success, keys}
 use Rattle.outcome.specs.declared.Report.{Report}
@@ -71,7 +71,7 @@ module _ (own : Text) (e : Entry) (m : reader.Ksm) (t : Text) where
 
     -- where there are any, they are refused with
     pub stage-misjudged : Ksm-read m t → legal e ≡ true → (c : Counts) → (j .letters ≡ 0 → ⊥)
-        → c ≡ counts-between (e .expected) (m .ctp) → Refuses (j .letters) (counts-in c)
+        → c ≡ counts-between (e .receiving .expected) (m .ctp .value) → Refuses (j .letters) (counts-in c)
     unfolding ksm-in
     stage-misjudged good l c z k =
         let p = misjudged own e t (ksm-in m t) set l (count-within m t good) (λ w. z (letters ∙ w)) in
@@ -82,7 +82,7 @@ module _ (own : Text) (e : Entry) (m : reader.Ksm) (t : Text) where
 
     -- otherwise 0: the entry, the RSM and what is told
     pub stage-accepted : j .letters ≡ 0
-        → done (accepted e (m .ctp) set) (rsm-text own e set) (keys (iv-of set (ksm-in m t)) (ksm-in m t .edk))
+        → done (with-receiving e (accepted (m .ctp .value) set)) (rsm-text own e set) (keys (iv-of set (ksm-in m t)) (ksm-in m t .edk))
         ≡ receive-ksm own e t (ksm-in m t)
     unfolding ksm-in
     stage-accepted z = accepts own e t (ksm-in m t) set (sym letters ∙ z) ∙ turn

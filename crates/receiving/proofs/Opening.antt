@@ -4,14 +4,13 @@ use mathlib.Core.Bool.{Bool, true, false, not, _&&_, _||_}
 use mathlib.Core.Option.{Option, none, some}
 use Prim.Native.Nat.{ℕ}
 use Rattle.octets.specs.Text.{Text}
-use Rattle.octets.specs.Part.{bare}
+use Rattle.octets.specs.Part.{bare, part}
 use Rattle.keying.specs.Parity.{odd}
 use Rattle.keying.specs.Keys.{working, unseal}
 use Rattle.csm.specs.Fields.{Kd, nonempty, named}
 use Rattle.csm.specs.Message.{Ksm}
-use Rattle.reader.specs.declared.Key as reader-key
+use Rattle.fields.specs.declared.Kd as fields
 use Rattle.reader.specs.declared.Ksm as reader
-use Rattle.reader.specs.Parts as parts
 use Rattle.partner.specs.declared.Entry.{Entry}
 use Rattle.partner.specs.declared.DataKey.{DataKey}
 use Rattle.partner.specs.Entry.{name-of, top-of, one-key, two-keys}
@@ -25,7 +24,7 @@ use Rattle.receiving.proofs.Missing.{named-nonempty}
 
 -- I of a KD with that IDK2
 pub foreign-same : (e : Entry) (k : Kd) (w : Text) → k .idk2 ≡ nonempty w
-    → foreign e k ≡ foreign-name w (bare (e .name .bytes))
+    → foreign e k ≡ foreign-name w (bare (e .top .name .bytes))
 unfolding foreign foreign-name name-in-force
 foreign-same e k w h = rw h
 
@@ -79,7 +78,7 @@ module _ (e : Entry) (m : Ksm) where
 module _ (e : Entry) (m : reader.Ksm) (t : Text) where
   -- an entry's name, bare
   abbrev entry-name : Text
-  entry-name = bare (e .name .bytes)
+  entry-name = bare (e .top .name .bytes)
 
   -- one KD or two
   second-none : m .two ≡ false → ksm-in m t .second ≡ none
@@ -87,46 +86,46 @@ module _ (e : Entry) (m : reader.Ksm) (t : Text) where
   second-none h = rw h
 
   second-some : m .two ≡ true
-      → ksm-in m t .second ≡ some (kd-in (m .second .kd) (parts.second-idk1 m t) (parts.second-idk2 m t))
+      → ksm-in m t .second ≡ some (kd-in (m .second) t)
   unfolding ksm-in
   second-some h = rw h
 
   -- I of the first KD
-  first-foreign : foreign e (ksm-in m t .kd) ≡ foreign-name (parts.first-idk2 m t) entry-name
+  first-foreign : foreign e (ksm-in m t .kd) ≡ foreign-name (part t (m .first .idk2)) entry-name
   unfolding ksm-in
-  first-foreign = foreign-same e (ksm-in m t .kd) (parts.first-idk2 m t) refl
+  first-foreign = foreign-same e (ksm-in m t .kd) (part t (m .first .idk2)) refl
 
   -- I of any KD: the first one
-  pub foreign-first : foreign-name (parts.first-idk2 m t) (bare (e .name .bytes)) ≡ true
+  pub foreign-first : foreign-name (part t (m .first .idk2)) (bare (e .top .name .bytes)) ≡ true
       → true ≡ any-foreign e (ksm-in m t)
   foreign-first h = sym (any-first (foreign e) (ksm-in m t) (first-foreign ∙ h))
 
   -- one KD, and it is ours
-  pub foreign-one : foreign-name (parts.first-idk2 m t) (bare (e .name .bytes)) ≡ false → m .two ≡ false
+  pub foreign-one : foreign-name (part t (m .first .idk2)) (bare (e .top .name .bytes)) ≡ false → m .two ≡ false
       → false ≡ any-foreign e (ksm-in m t)
   foreign-one h s = sym (any-one (foreign e) (ksm-in m t) (first-foreign ∙ h) (second-none s))
 
   -- the first is ours, and the second decides
-  pub foreign-two : (b : Bool) → foreign-name (parts.first-idk2 m t) (bare (e .name .bytes)) ≡ false → m .two ≡ true
-      → b ≡ foreign-name (parts.second-idk2 m t) (bare (e .name .bytes)) → b ≡ any-foreign e (ksm-in m t)
+  pub foreign-two : (b : Bool) → foreign-name (part t (m .first .idk2)) (bare (e .top .name .bytes)) ≡ false → m .two ≡ true
+      → b ≡ foreign-name (part t (m .second .idk2)) (bare (e .top .name .bytes)) → b ≡ any-foreign e (ksm-in m t)
   foreign-two b h s k =
-      let other = kd-in (m .second .kd) (parts.second-idk1 m t) (parts.second-idk2 m t) in
+      let other = kd-in (m .second) t in
       k ∙ sym (any-two (foreign e) (ksm-in m t) other (first-foreign ∙ h) (second-some s)
-      ∙ foreign-same e other (parts.second-idk2 m t) refl)
+      ∙ foreign-same e other (part t (m .second .idk2)) refl)
 
   -- a KD's key deciphered; K of it
-  abbrev pub plain : reader-key.Key → ℕ
-  plain k = unseal (working (top-of e) (m .ctp)) (k .kd .key)
+  abbrev pub plain : fields.Kd → ℕ
+  plain k = unseal (working (top-of (e .top)) (m .ctp .value)) (k .key)
 
-  abbrev pub uneven-key : reader-key.Key → Bool
-  uneven-key k = k .kd .p && not (odd (plain k))
+  abbrev pub uneven-key : fields.Kd → Bool
+  uneven-key k = k .p && not (odd (plain k))
 
   -- K of the first KD and of the second
   first-uneven : uneven e (ksm-in m t) (ksm-in m t .kd) ≡ uneven-key (m .first)
   unfolding uneven ksm-in
   first-uneven = refl
 
-  second-uneven : uneven e (ksm-in m t) (kd-in (m .second .kd) (parts.second-idk1 m t) (parts.second-idk2 m t))
+  second-uneven : uneven e (ksm-in m t) (kd-in (m .second) t)
       ≡ uneven-key (m .second)
   unfolding uneven ksm-in
   second-uneven = refl
@@ -180,22 +179,22 @@ named-two a b k l s = rw (named-keys, s)
 
 -- a set of one key from the parts of the text
 pub keys-of-one : (a b : ℕ) (m : reader.Ksm) (t : Text) → m .two ≡ false
-    → one-key (record { key = a; name = name-of (parts.first-idk1 m t) }) ≡ named-keys a b (ksm-in m t)
+    → one-key (record { key = a; name = name-of (part t (m .first .idk1)) }) ≡ named-keys a b (ksm-in m t)
 unfolding ksm-in
 keys-of-one a b m t s =
-    ap (λ (w : Text). one-key (named-key a w)) (sym (named-nonempty (parts.first-idk1 m t)))
+    ap (λ (w : Text). one-key (named-key a w)) (sym (named-nonempty (part t (m .first .idk1))))
     ∙ named-one a b (ksm-in m t) (rw s)
 
 -- a set of two
 pub keys-of-two : (a b : ℕ) (m : reader.Ksm) (t : Text) → m .two ≡ true
-    → two-keys (record { key = a; name = name-of (parts.first-idk1 m t) })
-    (record { key = b; name = name-of (parts.second-idk1 m t) })
+    → two-keys (record { key = a; name = name-of (part t (m .first .idk1)) })
+    (record { key = b; name = name-of (part t (m .second .idk1)) })
     ≡ named-keys a b (ksm-in m t)
 unfolding ksm-in
 keys-of-two a b m t s =
-    let v = parts.first-idk1 m t in
-    let w = parts.second-idk1 m t in
-    let other = kd-in (m .second .kd) w (parts.second-idk2 m t) in
+    let v = part t (m .first .idk1) in
+    let w = part t (m .second .idk1) in
+    let other = kd-in (m .second) t in
     ap (λ (u : Text). two-keys (named-key a u) (named-key b w)) (sym (named-nonempty v))
     ∙ ap (λ (u : Text). two-keys (named-key a (named (nonempty v))) (named-key b u)) (sym (named-nonempty w))
     ∙ named-two a b (ksm-in m t) other (rw s)

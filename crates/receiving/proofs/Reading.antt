@@ -9,7 +9,8 @@ use lib.ListN.{length}
 use lib.Seq.{take-all}
 use Rattle.octets.specs.Text.{Text, all, within, run-char, is-run}
 use Rattle.octets.specs.Number.{copies}
-use Rattle.octets.specs.Part.{found}
+use Rattle.octets.specs.Part.{found, part}
+use Rattle.octets.specs.declared.Span.{Span}
 use Rattle.octets.proofs.Writing.{over-full}
 use Rattle.octets.proofs.Comparing.{both as and-true}
 use Rattle.csm.specs.Format.{maybe-legal}
@@ -24,9 +25,10 @@ use Rattle.reader.specs.declared.Ksm as reader-ksm
 use Rattle.reader.specs.declared.Rsm as reader-rsm
 use Rattle.reader.specs.declared.Esm as reader-esm
 use Rattle.reader.specs.declared.Message.the-variants as message
-use Rattle.reader.specs.Seen.{seen, head-seen, optional, optional-key, ksm-seen, esm-seen}
-use Rattle.reader.specs.Claims.{Ksm-parts}
-use Rattle.reader.specs.Parts as parts
+use Rattle.reader.specs.Seen.{seen, span-at, next-at, body-place, optional}
+use Rattle.fields.specs.Seen.{kd-at, number-or-zero}
+use Rattle.fields.specs.declared.Kd as fields
+use Rattle.reader.specs.Claims.{Kd-parts, Ksm-parts}
 use Rattle.reader.proofs.Claims.{claims}
 use Rattle.reader.proofs.SeenBack.{Read-as, ksm-of, rsm-of, esm-of, ksm-back, rsm-back, esm-back}
 use Rattle.partner.specs.Entry.{limit}
@@ -39,10 +41,6 @@ use Rattle.receiving.proofs.Missing.{nonempty-named}
 -- what is read is legal
 pub read-legal : (t : Text) (q : Reading) → read t ≡ some q → legal-body (q .body) ≡ true
 read-legal t q e = legal-parts q (read-back t q e .0) .body
-
--- the finder of a text with a MAC gives the part that the MAC covers
-pub read-sealed : (t : Text) (q : Reading) (m : ℕ) → read t ≡ some q → mac-of (q .body) ≡ some m → Sealed t
-read-sealed t q m e h = claims .covered t q m e h ∙ sym (covered-agrees t q m e h)
 
 -- ---- a KSM
 
@@ -76,35 +74,32 @@ legal-fields m h =
     }
 
 -- a KD from its parts
-kd-same : (k : Kd) (v w : Text) → kd .legal k ≡ true → v ≡ named (k .idk1) → w ≡ named (k .idk2)
-    → _≡_ {A = Kd} (record { key = k .key; p = k .p; idk1 = nonempty v; idk2 = nonempty w }) k
-kd-same k v w h p q =
+kd-same : (t : Text) (m : fields.Kd) (k : Kd) → kd .legal k ≡ true → m .key ≡ k .key → m .p ≡ k .p → Kd-parts t m k
+    → kd-in m t ≡ k
+kd-same t m k h e f r =
     let n = and-true (legal-name (k .idk1)) (legal-name (k .idk2))
     (and-true (hex 16 .legal (k .key)) (legal-name (k .idk1) && legal-name (k .idk2)) h .1) in
-    let i = ap nonempty p ∙ name-back (k .idk1) (n .0) in
-    let j = ap nonempty q ∙ name-back (k .idk2) (n .1) in
-    λ x. record { key = k .key; p = k .p; idk1 = i x; idk2 = j x }
+    let i = ap nonempty (r .idk1) ∙ name-back (k .idk1) (n .0) in
+    let j = ap nonempty (r .idk2) ∙ name-back (k .idk2) (n .1) in
+    λ x. record { key = e x; p = f x; idk1 = i x; idk2 = j x }
 
 -- a KSM from its parts
-ksm-same : (t : Text) (q : Reading) (k : Ksm) → legal-body (ksm k) ≡ true
-    → Ksm-parts t (ksm-seen (head-seen q) k) k → ksm-in (ksm-seen (head-seen q) k) t ≡ k
+ksm-same : (t : Text) (q : Reading) (k : Ksm) → legal-body (ksm k) ≡ true → let m = ksm-of q k in
+    Ksm-parts t m k → ksm-in m t ≡ k
 unfolding ksm-in
 ksm-same t q k h p =
-    let m = ksm-seen (head-seen q) k in
     let f = legal-fields k h in
-    let one = kd-same (k .kd) (parts.first-idk1 m t) (parts.first-idk2 m t) (f .first) (p .first-idk1)
-    (p .first-idk2) in
-    let two = other (k .second) (parts.second-idk1 m t) (parts.second-idk2 m t) (f .second) (p .second-idk1)
-    (p .second-idk2) in
+    let one = kd-same t (ksm-of q k .first) (k .kd) (f .first) refl refl (p .first) in
+    let two = other (span-at KD (next-at KD (body-place q) (some (k .kd))) (k .second) .at) (k .second) (f .second) (p .second) in
     let vector = ap nonempty (p .iv) ∙ iv-back (k .iv) (f .iv) in
     let date = ap nonempty (p .edk) ∙ edk-back (k .edk) (f .edk) in
     λ x. record { kd = one x; second = two x; iv = vector x; edk = date x; ctp = k .ctp; mac = k .mac }
   where
-    other : (o : Option Kd) (v w : Text) → maybe-legal (field KD) o ≡ true
-        → v ≡ elim o [ none ↦ [] | some l ↦ named (l .idk1) ] → w ≡ elim o [ none ↦ [] | some l ↦ named (l .idk2) ]
-        → cond (found o) (some (kd-in (optional-key o .kd) v w)) none ≡ o
-    other none v w h p q = refl
-    other (some l) v w h p q = ap some (kd-same l v w h p q)
+    other : (at : ℕ) (o : Option Kd) → maybe-legal (field KD) o ≡ true
+        → ((l : Kd) → o ≡ some l → Kd-parts t (kd-at at o) l)
+        → cond (found o) (some (kd-in (kd-at at o) t)) none ≡ o
+    other at none h r = refl
+    other at (some l) h r = ap some (kd-same t (kd-at at (some l)) l h refl refl (r l refl))
 
 pub record Reads-ksm (t : Text) (m : reader-ksm.Ksm) : Type 0 where
   pub reading : Reading
@@ -121,7 +116,7 @@ reads-ksm t m e = go (ksm-back t m e)
         let q = b .reading in
         let k = b .value in
         let l : legal-body (ksm k) ≡ true = ap legal-body (sym (b .body)) ∙ read-legal t q (b .is) in
-        let s = ksm-same t q k l (claims .ksm t q k (b .is) (b .body)) in
+        let s = ksm-same t q k l (claims .ksm-parts t q k (b .is) (b .body)) in
         let i : ksm-in m t ≡ k = ap (λ (n : reader-ksm.Ksm). ksm-in n t) (sym (b .seen)) ∙ s in
         record {
           reading = q;
@@ -129,21 +124,23 @@ reads-ksm t m e = go (ksm-back t m e)
           body = b .body ∙ ap ksm (sym i);
           good = record {
             lawful = ap (λ (n : Ksm). legal-body (ksm n)) i ∙ l;
-            sealed = read-sealed t q (k .mac) (b .is) (ap mac-of (b .body));
+            sealed = subst (λ (n : reader-ksm.Ksm). Sealed (n .mac .span) t) (b .seen)
+                (claims .ksm-covered t q k (b .is) (b .body)
+                ∙ sym (covered-agrees t q (k .mac) (b .is) (ap mac-of (b .body))));
           };
         }
 
 -- its count, and its date
 module _ (m : reader-ksm.Ksm) (t : Text) (good : Ksm-read m t) where
   -- its count is one
-  pub count-within : within 1 limit (m .ctp) ≡ true
+  pub count-within : within 1 limit (m .ctp .value) ≡ true
   unfolding ksm-in
   count-within = legal-fields (ksm-in m t) (good .lawful) .count
 
   -- its date is the digits of its EDK
-  pub date-same : date-over (parts.edk m t) ≡ date-of (ksm-in m t .edk)
+  pub date-same : date-over (part t (m .edk)) ≡ date-of (ksm-in m t .edk)
   unfolding ksm-in
-  date-same = go (parts.edk m t) (legal-fields (ksm-in m t) (good .lawful) .edk)
+  date-same = go (part t (m .edk)) (legal-fields (ksm-in m t) (good .lawful) .edk)
     where
       go : (w : Text) → maybe-legal (field EDK) (nonempty w) ≡ true → date-over w ≡ date-of (nonempty w)
       go [] h = refl
@@ -158,7 +155,7 @@ pub record Reads-rsm (t : Text) (m : reader-rsm.Rsm) : Type 0 where
   pub reading : Reading
   pub is : read t ≡ some reading
   pub body : reading .body ≡ rsm (rsm-in m)
-  pub sealed : Sealed t
+  pub sealed : Sealed (m .mac .span) t
 
 -- a text that is read as an RSM
 pub reads-rsm : (t : Text) (m : reader-rsm.Rsm) → seen (read t) ≡ message.Rsm m → Reads-rsm t m
@@ -169,7 +166,9 @@ reads-rsm t m e = go (rsm-back t m e)
       reading = b .reading;
       is = b .is;
       body = b .body ∙ ap (λ (n : reader-rsm.Rsm). rsm (rsm-in n)) (b .seen);
-      sealed = read-sealed t (b .reading) (b .value .mac) (b .is) (ap mac-of (b .body));
+      sealed = subst (λ (n : reader-rsm.Rsm). Sealed (n .mac .span) t) (b .seen)
+          (claims .rsm-covered t (b .reading) (b .value) (b .is) (b .body)
+          ∙ sym (covered-agrees t (b .reading) (b .value .mac) (b .is) (ap mac-of (b .body))));
     }
 
 -- ---- an ESM
@@ -181,12 +180,12 @@ pub record Reads-esm (t : Text) (m : reader-esm.Esm) : Type 0 where
   pub fits : m .ctp .value < 2 ^ 32
 
 -- a number that may be missing, back
-option-same : (o : Option ℕ) → option-in (optional o) ≡ o
-option-same none = refl
-option-same (some n) = refl
+option-same : (o : Option ℕ) (p : Span) → option-in (optional o p) ≡ o
+option-same none p = refl
+option-same (some n) p = refl
 
 -- the CTP of an ESM fits 32 bits
-count-fits : (o : Option ℕ) → maybe-legal (field CTP) o ≡ true → optional o .value < 2 ^ 32
+count-fits : (o : Option ℕ) → maybe-legal (field CTP) o ≡ true → number-or-zero o < 2 ^ 32
 count-fits none h = omega arith
 count-fits (some n) h = let w = within-true 1 limit n h in omega arith
 
@@ -198,11 +197,11 @@ reads-esm t m e = go (esm-back t m e)
     go b =
         let k = b .value in
         let l : legal-body (esm k) ≡ true = ap legal-body (sym (b .body)) ∙ read-legal t (b .reading) (b .is) in
-        let same : esm-in (esm-seen (head-seen (b .reading)) k) ≡ k = λ i. record {
-          ctp = option-same (k .ctp) i;
-          ctr = option-same (k .ctr) i;
+        let same : esm-in (esm-of (b .reading) k) ≡ k = λ i. record {
+          ctp = option-same (k .ctp) (esm-of (b .reading) k .ctp .span) i;
+          ctr = option-same (k .ctr) (esm-of (b .reading) k .ctr .span) i;
           erf = k .erf;
-          edc = option-same (k .edc) i;
+          edc = option-same (k .edc) (esm-of (b .reading) k .edc .span) i;
         } in
         let back : k ≡ esm-in m = sym same ∙ ap esm-in (b .seen) in
         record {

@@ -13,7 +13,7 @@ use Rattle.messages.specs.declared.Counts.the-variants.{Without, Both}
 use Rattle.partner.specs.declared.KeySet.{KeySet}
 use Rattle.partner.specs.declared.Entry.{Entry}
 use Rattle.partner.specs.Entry.{limit, waiting, keys-in}
-use Rattle.partner.specs.Changes.{accepted, settled}
+use Rattle.partner.specs.Changes.{with-receiving, with-sending, accepted, settled}
 use Rattle.partner.specs.Legal.{legal}
 use Rattle.partner.proofs.Keeping.{rules}
 use Rattle.calls.specs.Words.{if_then_else_, any}
@@ -90,24 +90,24 @@ module _ (own : Text) (e : Entry) (text : Text) (m : Ksm) where
     unfolding steps.judged faults if_then_else_
     misjudged l c z =
         let q = ap not (ne-eqb (faults e set text m) 0 z) in record {
-          lawful = letters-legal (bad-format set m) (bad-mac set text (m .mac)) (bad-count (e .expected) (m .ctp))
-              (e .expected) (m .ctp) (rules e l .expected-right) c q;
+          lawful = letters-legal (bad-format set m) (bad-mac set text (m .mac)) (bad-count (e .receiving .expected) (m .ctp))
+              (e .receiving .expected) (m .ctp) (rules e l .expected-right) c q;
           turn = rw q;
         }
 
     -- none of them
     pub accepts : faults e set text m ≡ 0
-        → done (accepted e (m .ctp) set) (rsm-text own e set) (keys (iv-of set m) (m .edk))
+        → done (with-receiving e (accepted (m .ctp) set)) (rsm-text own e set) (keys (iv-of set m) (m .edk))
         ≡ steps.judged own e text m set
     unfolding steps.judged if_then_else_
     accepts z = rw (eq-eqb (faults e set text m) 0 z)
 
 -- the counts of an ESM for P
-pub counts-same : (e : Entry) (m : Ksm) → counts-in (counts-between (e .expected) (m .ctp)) ≡ counts-for e m
-counts-same e m = go (bad-count (e .expected) (m .ctp))
+pub counts-same : (e : Entry) (m : Ksm) → counts-in (counts-between (e .receiving .expected) (m .ctp)) ≡ counts-for e m
+counts-same e m = go (bad-count (e .receiving .expected) (m .ctp))
   where
     go : (b : Bool)
-        → counts-in (cond b (Both (e .expected) (m .ctp)) Without) ≡ cond b (some (e .expected, m .ctp)) none
+        → counts-in (cond b (Both (e .receiving .expected) (m .ctp)) Without) ≡ cond b (some (e .receiving .expected, m .ctp)) none
     go true = refl
     go false = refl
 
@@ -115,33 +115,33 @@ counts-same e m = go (bad-count (e .expected) (m .ctp))
 
 module _ (own : Text) (e : Entry) (text : Text) (m : Rsm) where
   -- not waiting: 5
-  pub rsm-idle : eqb (e .phase) waiting ≡ false → refused e 5 ≡ receive-rsm own e text m
-  unfolding receive-rsm is-waiting if_then_else_
+  pub rsm-idle : is-waiting (e .sending) ≡ false → refused e 5 ≡ receive-rsm own e text m
+  unfolding receive-rsm if_then_else_
   rsm-idle h = rw h
 
   -- the MAC differs: 4 with M
-  pub rsm-bad : eqb (e .phase) waiting ≡ true → stages.bad-mac (keys-in (e .outgoing)) text (m .mac) ≡ true
+  pub rsm-bad : is-waiting (e .sending) ≡ true → stages.bad-mac (keys-in (e .sending .outgoing)) text (m .mac) ≡ true
       → error own e M none ≡ receive-rsm own e text m
-  unfolding receive-rsm is-waiting if_then_else_ bad-mac stages.bad-mac
+  unfolding receive-rsm if_then_else_ bad-mac stages.bad-mac
   rsm-bad h b = rw (h, b)
 
   -- otherwise phase 2
-  pub rsm-good : eqb (e .phase) waiting ≡ true → stages.bad-mac (keys-in (e .outgoing)) text (m .mac) ≡ false
-      → done (settled e) [] confirmation ≡ receive-rsm own e text m
-  unfolding receive-rsm is-waiting if_then_else_ bad-mac stages.bad-mac
+  pub rsm-good : is-waiting (e .sending) ≡ true → stages.bad-mac (keys-in (e .sending .outgoing)) text (m .mac) ≡ false
+      → done (with-sending e (settled (e .sending))) [] confirmation ≡ receive-rsm own e text m
+  unfolding receive-rsm if_then_else_ bad-mac stages.bad-mac
   rsm-good h b = rw (h, b)
 
 -- ---- an ESM
 
 -- not waiting: 5
-pub esm-idle : (e : Entry) (m : Esm) → eqb (e .phase) waiting ≡ false → refused e 5 ≡ receive-esm e m
-unfolding receive-esm is-waiting if_then_else_
+pub esm-idle : (e : Entry) (m : Esm) → is-waiting (e .sending) ≡ false → refused e 5 ≡ receive-esm e m
+unfolding receive-esm if_then_else_
 esm-idle e m h = rw h
 
 -- otherwise phase 3
-pub esm-breaks : (e : Entry) (m : Esm) → eqb (e .phase) waiting ≡ true
-    → done (after-esm e m) [] (failure (m .erf)) ≡ receive-esm e m
-unfolding receive-esm is-waiting if_then_else_
+pub esm-breaks : (e : Entry) (m : Esm) → is-waiting (e .sending) ≡ true
+    → done (with-sending e (after-esm (e .sending) m)) [] (failure (m .erf)) ≡ receive-esm e m
+unfolding receive-esm if_then_else_
 esm-breaks e m h = rw h
 
 -- no ESM is ever answered

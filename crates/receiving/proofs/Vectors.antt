@@ -16,7 +16,6 @@ use Rattle.csm.proofs.WordTests.{hex-value}
 use Rattle.fields.specs.declared.Number.{Number}
 use Rattle.fields.specs.declared.Number.the-variants as number
 use Rattle.fields.specs.Seen.{number-seen}
-use Rattle.fields.specs.Steps.{alone}
 use Rattle.calls.specs.Words.{if_then_else_}
 use Rattle.calls.specs.Receive.{iv-value}
 use Rattle.receiving.specs.declared.judging.Value.the-variants.{Is, Nothing}
@@ -24,7 +23,7 @@ use Rattle.receiving.specs.Stages.{value-of}
 
 -- what a text is seen as, by the test of its digits
 abbrev pub block-seen : Text → Number
-block-seen w = number-seen (hex 16) (alone (value (hex 16) w))
+block-seen w = number-seen (value (hex 16) w)
 
 pub record Block (w : Text) (n : ℕ) : Type 0 where
   pub digits : is-run 70 16 16 w ≡ true
@@ -36,20 +35,20 @@ never z = absurd (omega arith)
 
 -- not 16 hex digits
 pub block-none : (w : Text) → block-seen w ≡ number.Nothing → is-run 70 16 16 w ≡ false
-block-none w e = go (is-run 70 16 16 w) refl (sym (ap (λ o. number-seen (hex 16) (alone o)) (hex-value 16 w)) ∙ e)
+block-none w e = go (is-run 70 16 16 w) refl (sym (ap number-seen (hex-value 16 w)) ∙ e)
   where
     go : (b : Bool) → is-run 70 16 16 w ≡ b
-        → number-seen (hex 16) (alone (cond b (some (numeral 16 0 w)) none)) ≡ number.Nothing
+        → number-seen (cond b (some (numeral 16 0 w)) none) ≡ number.Nothing
         → is-run 70 16 16 w ≡ false
     go true q e = never cc
     go false q e = q
 
 -- 16 hex digits and their number
-pub block-is : (w : Text) (n k : ℕ) → block-seen w ≡ number.Is n k → Block w n
-block-is w n k e = go (is-run 70 16 16 w) refl (sym (ap (λ o. number-seen (hex 16) (alone o)) (hex-value 16 w)) ∙ e)
+pub block-is : (w : Text) (n : ℕ) → block-seen w ≡ number.Is n → Block w n
+block-is w n e = go (is-run 70 16 16 w) refl (sym (ap number-seen (hex-value 16 w)) ∙ e)
   where
     go : (b : Bool) → is-run 70 16 16 w ≡ b
-        → number-seen (hex 16) (alone (cond b (some (numeral 16 0 w)) none)) ≡ number.Is n k
+        → number-seen (cond b (some (numeral 16 0 w)) none) ≡ number.Is n
         → Block w n
     go true q e = record { digits = q; is = cc }
     go false q e = never cc

@@ -17,6 +17,7 @@ use Rattle.csm.specs.Covered.{covered}
 use Rattle.messages.specs.declared.Counts.{Counts}
 use Rattle.messages.specs.declared.Counts.the-variants.{Without, Both}
 use Rattle.partner.specs.declared.KeySet.{KeySet}
+use Rattle.partner.specs.declared.Sending.{Sending}
 use Rattle.partner.specs.declared.Entry.{Entry}
 use Rattle.partner.specs.Entry.{name-of, one-key, two-keys}
 use Rattle.partner.specs.Changes.{given-up, failed}
@@ -123,6 +124,6 @@ counts-in (Both ctp ctr) = some (ctp, ctr)
 
 -- ---- an ESM
 
--- the entry after it, with that CTP or without one
-abbrev pub after-count : Entry → Option ℕ → Entry
-after-count e o = elim o [ none ↦ given-up e | some x ↦ failed e x ]
+-- the sending unit after it, with that CTP or without one
+abbrev pub after-count : Sending → Option ℕ → Sending
+after-count s o = elim o [ none ↦ given-up s | some x ↦ failed s x ]

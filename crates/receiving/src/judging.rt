@@ -14,7 +14,7 @@ use outcome::Report;
 use partner::Entry;
 use partner::KeySet;
 use reader::Ksm;
-use reader::find;
+use reader::Numeral;
 
 // The letters of F, M and P that hold, and what is reported where none does, before the reply is written.
 pub(crate) struct Judged {
@@ -35,7 +35,7 @@ fn iv_value(keys: DataKeys, w: &[u8]) -> Value
     if w.len() == 0 {
         return Value::Nothing;
     }
-    let Number::Is { value, length: _ } = fields::block(&w[1..]) else {
+    let Number::Is(value) = fields::block(&w[1..]) else {
         return Value::Nothing;
     };
     if w[0] == b'P' {
@@ -74,11 +74,15 @@ fn bad_format(iv: &[u8], value: Value, edk: &[u8]) -> bool
 }
 
 // M: whether the MAC differs.
-pub(crate) fn bad_mac(keys: DataKeys, text: &[u8], mac: u64) -> bool
-    requires { ⌜ texts.Sealed (now text) ⌝ }
-    ensures { λ r. ⌜ r ≡ stages.bad-mac (listed keys) (now (text .entry)) mac ⌝ }
+pub(crate) fn bad_mac(keys: DataKeys, text: &[u8], mac: Numeral) -> bool
+    requires { ⌜ texts.Sealed (mac .span) (now text) ⌝ }
+    ensures { λ r. ⌜ r ≡ stages.bad-mac (listed keys) (now (text .entry)) (mac .value) ⌝ }
 {
-    keying::mac(keying::mac_key(keys), find::covered(text)) as u64 != mac
+    keying::mac(
+        keying::mac_key(keys),
+        octets::part(text, reader::covered(mac.span)),
+    ) as u64
+        != mac.value
 }
 
 // P: whether the count is below the expected one, or 99,999,999.
@@ -137,13 +141,14 @@ pub(crate) fn judge(e: Entry, set: KeySet, text: &[u8], m: Ksm) -> Judged
     requires { ⌜ texts.Ksm-read m (now text) ⌝ }
     ensures { λ r. ⌜ r ≡ stages.judged e set (now (text .entry)) (texts.ksm-in m (now (text .entry))) ⌝ }
 {
+    let receiving = e.receiving;
     let keys = partner::data_keys(set);
-    let iv = find::iv(text, m);
-    let edk = find::edk(text, m);
+    let iv = octets::part(text, m.iv);
+    let edk = octets::part(text, m.edk);
     let value = iv_value(keys, iv);
     let format = letter(bad_format(iv, value, edk), letters::F);
     let mac = letter(bad_mac(keys, text, m.mac), letters::M);
-    let count = letter(bad_count(e.expected, m.ctp), letters::P);
+    let count = letter(bad_count(receiving.expected, m.ctp.value), letters::P);
     Judged {
         letters: format + (mac + count),
         report: handed(value, edk),

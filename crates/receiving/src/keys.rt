@@ -5,11 +5,11 @@ ghost use Rattle.keying.specs.Parity as parity;
 ghost use Rattle.receiving.specs.Texts as texts;
 ghost use Rattle.receiving.specs.Stages as stages;
 use calls::letters;
+use keying::Blocks;
 use partner::DataKey;
 use partner::Entry;
 use partner::KeySet;
 use reader::Ksm;
-use reader::find;
 
 // The data keys deciphered, the second zero where there is none, or the letter of the error: I, then K.
 pub(crate) enum Opened {
@@ -51,15 +51,16 @@ fn foreign<'a>(idk2: &'a [u8], name: &'a [u8]) -> bool
 fn any_foreign(e: Entry, text: &[u8], m: Ksm) -> bool
     ensures { λ r. ⌜ r ≡ stages.any-foreign e (texts.ksm-in m (now (text .entry))) ⌝ }
 {
-    let filled = e.name;
+    let top = e.top;
+    let filled = top.name;
     let name = octets::bare(&filled.bytes);
-    if foreign(find::first_idk2(text, m), name) {
+    if foreign(octets::part(text, m.first.idk2), name) {
         return true;
     }
     if !m.two {
         return false;
     }
-    foreign(find::second_idk2(text, m), name)
+    foreign(octets::part(text, m.second.idk2), name)
 }
 
 // K: whether a KD is marked P and its key not of odd parity.
@@ -79,19 +80,25 @@ pub(crate) fn open_keys(e: Entry, text: &[u8], m: Ksm) -> Opened
     if any_foreign(e, text, m) {
         return Opened::Error(letters::I);
     }
-    let key = keying::working(partner::top_of(e), m.ctp);
-    let one = m.first;
-    let kd = one.kd;
-    let first = keying::unseal(key, kd.key);
+    let key = keying::working(partner::top_of(e.top), m.ctp.value);
+    let kd = m.first;
+    let other = m.second;
+    let plain = keying::unseal(
+        key,
+        Blocks {
+            first: kd.key,
+            second: other.key,
+            two: m.two,
+        },
+    );
+    let first = plain.first;
     if uneven(kd.p, first) {
         return Opened::Error(letters::K);
     }
     if !m.two {
         return Opened::Keys { first, second: 0 };
     }
-    let two = m.second;
-    let other = two.kd;
-    let second = keying::unseal(key, other.key);
+    let second = plain.second;
     if uneven(other.p, second) {
         return Opened::Error(letters::K);
     }
@@ -104,14 +111,14 @@ pub(crate) fn brought(first: u64, second: u64, text: &[u8], m: Ksm) -> KeySet
 {
     let one = DataKey {
         key: first,
-        name: partner::name_of(find::first_idk1(text, m)),
+        name: partner::name_of(octets::part(text, m.first.idk1)),
     };
     if !m.two {
         return partner::one_key(one);
     }
     let two = DataKey {
         key: second,
-        name: partner::name_of(find::second_idk1(text, m)),
+        name: partner::name_of(octets::part(text, m.second.idk1)),
     };
     partner::two_keys(one, two)
 }

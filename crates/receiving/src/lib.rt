@@ -1,10 +1,8 @@
 // Receive, once the partner's entry is found: by class, on one entry by value.
 ghost use mathlib.Core.Path.{_≡_};
 ghost use Prim.Native.Nat.{_^_, _<_};
-ghost use lib.Dec.{eqb};
 ghost use lib.ListN.{length};
 ghost use Rattle.csm.specs.Message as csm;
-ghost use Rattle.partner.specs.Entry.{waiting};
 ghost use Rattle.calls.specs.Receive as steps;
 ghost use Rattle.outcome.specs.Report as report;
 ghost use Rattle.outcome.specs.Acts as acts;
@@ -16,6 +14,7 @@ pub use keys::name_in_force;
 use messages::Counts;
 use outcome::Turned;
 use partner::Entry;
+use partner::Sending;
 use reader::Esm;
 use reader::Ksm;
 use reader::Message;
@@ -44,7 +43,8 @@ fn receive_ksm(own: &[u8], e: Entry, text: &[u8], m: Ksm, reply: &mut [u8]) -> T
     let judged = judging::judge(e, set, text, m);
     let letters = judged.letters;
     if letters != 0 {
-        let counts = judging::counts_for(e.expected, m.ctp);
+        let receiving = e.receiving;
+        let counts = judging::counts_for(receiving.expected, m.ctp.value);
         return Turned {
             entry: e,
             report: replies::error(own, e, letters, counts, reply),
@@ -52,28 +52,29 @@ fn receive_ksm(own: &[u8], e: Entry, text: &[u8], m: Ksm, reply: &mut [u8]) -> T
     }
     let mut report = judged.report;
     report.length = replies::confirm(own, e, set, reply);
-    let entry = partner::accepted(e, m.ctp as u32, set);
+    let entry = partner::with_receiving(e, partner::accepted(m.ctp.value as u32, set));
     Turned { entry, report }
 }
 
 // Whether a key message is waiting.
-fn is_waiting(phase: u8) -> bool
-    ensures { λ r. ⌜ r ≡ eqb phase waiting ⌝ }
+fn is_waiting(s: Sending) -> bool
+    ensures { λ r. ⌜ r ≡ steps.is-waiting s ⌝ }
 {
-    phase == partner::WAITING
+    s.phase == partner::WAITING
 }
 
 // An RSM: not waiting, 5; MAC differs under the outgoing keys, 4 with M, still waiting; otherwise 0, phase 2.
 fn receive_rsm(own: &[u8], e: Entry, text: &[u8], m: Rsm, reply: &mut [u8]) -> Turned
     requires { ⌜ acts.Ready (now own) e (length (now reply)) ⌝ }
-    requires { ⌜ texts.Sealed (now text) ⌝ }
+    requires { ⌜ texts.Sealed (m .mac .span) (now text) ⌝ }
     ensures { λ r. ⌜ r ≡ report.turned (steps.receive-rsm (now (own .entry)) e (now (text .entry)) (texts.rsm-in m)) ⌝ }
     ensures { λ r. ⌜ now (reply .exit) ≡ report.replied (steps.receive-rsm (now (own .entry)) e (now (text .entry)) (texts.rsm-in m) .outcome) (now (reply .entry)) ⌝ }
 {
-    if !is_waiting(e.phase) {
+    let sending = e.sending;
+    if !is_waiting(sending) {
         return outcome::refused(e, 5);
     }
-    let outgoing = e.outgoing;
+    let outgoing = sending.outgoing;
     if judging::bad_mac(partner::data_keys(outgoing), text, m.mac) {
         return Turned {
             entry: e,
@@ -81,20 +82,20 @@ fn receive_rsm(own: &[u8], e: Entry, text: &[u8], m: Rsm, reply: &mut [u8]) -> T
         };
     }
     Turned {
-        entry: partner::settled(e),
+        entry: partner::with_sending(e, partner::settled(sending)),
         report: outcome::told_confirmation(),
     }
 }
 
-// The entry after an ESM with that CTP, or without one.
-fn after_esm(e: Entry, ctp: Optional) -> Entry
+// The sending unit after an ESM with that CTP, or without one.
+fn after_esm(s: Sending, ctp: Optional) -> Sending
     requires { ⌜ ctp .value < 2 ^ 32 ⌝ }
-    ensures { λ r. ⌜ r ≡ stages.after-count e (texts.option-in ctp) ⌝ }
+    ensures { λ r. ⌜ r ≡ stages.after-count s (texts.option-in ctp) ⌝ }
 {
     if ctp.there {
-        return partner::failed(e, ctp.value as u32);
+        return partner::failed(s, ctp.value as u32);
     }
-    partner::given_up(e)
+    partner::given_up(s)
 }
 
 // An ESM: not waiting, 5; otherwise 0: phase 3, keys wiped, next send the larger of itself and CTP.
@@ -102,13 +103,14 @@ fn receive_esm(e: Entry, m: Esm) -> Turned
     requires { ⌜ m .ctp .value < 2 ^ 32 ⌝ }
     ensures { λ r. ⌜ r ≡ report.turned (steps.receive-esm e (texts.esm-in m)) ⌝ }
 {
-    if !is_waiting(e.phase) {
+    let sending = e.sending;
+    if !is_waiting(sending) {
         return outcome::refused(e, 5);
     }
     let ctp = m.ctp;
     Turned {
-        entry: after_esm(e, ctp),
-        report: outcome::told_failure(m.erf),
+        entry: partner::with_sending(e, after_esm(sending, ctp)),
+        report: outcome::told_failure(m.erf.value),
     }
 }
 

@@ -7,5 +7,8 @@ use Rattle.record.proofs as fn
 pub entry-in : One-outcome fn.entry_in.ended fn.entry_in.Reads.Post
 entry-in κs a x y v w p q = (alike p q, refl)
 
+pub put-whole : One-outcome fn.put_whole.ended fn.put_whole.Reads.Post
+put-whole κs a x y v w p q = (alike (p .count) (q .count), alike (p .text) (q .text) also refl)
+
 pub put-entry : One-outcome fn.put_entry.ended fn.put_entry.Reads.Post
 put-entry κs a x y v w p q = (alike (p .1) (q .1), alike (p .0) (q .0) also refl)

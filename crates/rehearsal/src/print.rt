@@ -142,17 +142,20 @@ fn put_keys(direction: &[u8], set: KeySet) {
 
 // An entry: its counts, its phase and the data keys of both directions.
 fn put_entry(e: Entry) {
-    let name = e.name;
-    let outgoing = e.outgoing;
-    let incoming = e.incoming;
+    let top = e.top;
+    let sending = e.sending;
+    let receiving = e.receiving;
+    let name = top.name;
+    let outgoing = sending.outgoing;
+    let incoming = receiving.incoming;
     put(b"  key ");
     put_name(name);
     put(b" next ");
-    io::print_decimal(1, e.next as u64);
+    io::print_decimal(1, sending.next as u64);
     put(b" expected ");
-    io::print_decimal(1, e.expected as u64);
+    io::print_decimal(1, receiving.expected as u64);
     put(b" phase ");
-    io::print_decimal(1, e.phase as u64);
+    io::print_decimal(1, sending.phase as u64);
     put(b"\n");
     put_keys(b"  outgoing", outgoing);
     put_keys(b"  incoming", incoming);

@@ -8,54 +8,37 @@ use native.Mathlib.Numerals.{add-one}
 use native.Mathlib.Nat.{add-zero}
 use lib.Dec.{eqb, ltb}
 use lib.ListN.{length, take, drop, getD, length-append, length-take, length-drop, drop-of-length-le}
-use lib.Seq.{take-all, drop-drop, drop-cons, take-at, drop-at}
+use lib.Seq.{drop-drop, drop-cons, take-at, drop-at}
 use borrow.Author.Needs.{length-unmapped}
 use borrow.Author.Tests.{lt-ltb, le-ltb, ltb-true, ltb-false, eqb-true}
 use Rattle.octets.specs.Text.{Text}
-use Rattle.octets.specs.Number.{bytes, copies}
+use Rattle.octets.specs.Number.{copies}
 use Rattle.octets.specs.Wrote.{Wrote, over}
-use Rattle.octets.proofs.Writing.{over-full}
+use Rattle.octets.proofs.Writing.{over-whole, wrote-fits}
 use Rattle.partner.specs.declared.Entry.{Entry}
-use Rattle.partner.specs.declared.DataKey.{DataKey}
-use Rattle.partner.specs.declared.KeySet.{KeySet}
 use Rattle.partner.specs.Entry.{empty}
-use Rattle.partner.specs.Record.{place-bytes, set-bytes, entry-bytes}
+use Rattle.partner.specs.Record.{entry-size, entry-bytes}
 use Rattle.partner.specs.Table.{is-empty}
-use Rattle.image.specs.Image.{slot-bytes, slots-bytes}
+use Rattle.partner.proofs.Storing.{names-size}
+use Rattle.image.specs.Image.{front-size, partner-size, slot-bytes, slots-bytes}
 use Rattle.image.proofs.Buffers.{left-all}
-use Rattle.image.proofs.Entries.{names-size as entry-size}
 use Rattle.row.specs.Stored.{slots-to-fill, size, put-slot, behind, put-slots, laid}
 use Rattle.row.proofs.Filling.{filled-64, filled-0}
 
 -- ---- the length of a record
 
-place-size : (k : DataKey) → length (k .name .bytes) ≡ 16 → length (place-bytes k) ≡ 24
-unfolding place-bytes
-place-size k h = length-append (bytes 8 (k .key)) (k .name .bytes) ∙ ap (λ (n : ℕ). 8 + n) h
-
-set-size : (s : KeySet) → length (s .first .name .bytes) ≡ 16 → length (s .second .name .bytes) ≡ 16 → length (set-bytes s) ≡ 49
-unfolding set-bytes
-set-size s a b =
-    length-append (bytes 1 (s .count)) (place-bytes (s .first) ++ place-bytes (s .second))
-    ∙ omega (
-      arith,
-      length-append (place-bytes (s .first)) (place-bytes (s .second)),
-      place-size (s .first) a,
-      place-size (s .second) b,
-    )
-
--- the same, as the fields of an argument tell it
+-- 16 bytes, as the fields of an argument tell it
 abbrev Sixteen : Text → Type 0
 Sixteen l = length (map (λ (v : ℕ). v) l) ≡ 16
 
-pub entry-held : (e : Entry) → Sixteen (e .identity .bytes) → Sixteen (e .name .bytes)
-    → Sixteen (e .outgoing .first .name .bytes) → Sixteen (e .outgoing .second .name .bytes)
-    → Sixteen (e .incoming .first .name .bytes) → Sixteen (e .incoming .second .name .bytes)
-    → length (entry-bytes e) ≡ 156
+pub entry-held : (e : Entry) → Sixteen (e .identity .bytes) → Sixteen (e .top .name .bytes)
+    → Sixteen (e .sending .outgoing .first .name .bytes) → Sixteen (e .sending .outgoing .second .name .bytes)
+    → Sixteen (e .receiving .incoming .first .name .bytes) → Sixteen (e .receiving .incoming .second .name .bytes)
+    → length (entry-bytes e) ≡ entry-size
 entry-held e i n a b c d =
-    entry-size e (bare (e .identity .bytes) i) (bare (e .name .bytes) n) (bare (e .outgoing .first .name .bytes) a)
-    (bare (e .outgoing .second .name .bytes) b) (bare (e .incoming .first .name .bytes) c)
-    (bare (e .incoming .second .name .bytes) d)
+    names-size e (bare (e .identity .bytes) i) (bare (e .top .name .bytes) n) (bare (e .sending .outgoing .first .name .bytes) a)
+    (bare (e .sending .outgoing .second .name .bytes) b) (bare (e .receiving .incoming .first .name .bytes) c)
+    (bare (e .receiving .incoming .second .name .bytes) d)
   where
     bare : (l : Text) → Sixteen l → length l ≡ 16
     bare l h = length-unmapped ℕ l 16 h
@@ -69,7 +52,7 @@ empty-record e h = rw h
 pub front-is : (w : Text) → length w ≡ 16 → 1 ∷ (over w (copies 16 1) ++ []) ≡ 1 ∷ w
 front-is w h =
     ap (λ (t : Text). 1 ∷ t)
-    (append-nil (over w (copies 16 1)) ∙ over-full w (copies 16 1) (omega arith) ∙ take-all 16 w (omega arith))
+    (append-nil (over w (copies 16 1)) ∙ over-whole w (copies 16 1) h)
 
 -- ---- one record
 
@@ -95,12 +78,13 @@ module _ (at : ℕ) (e : Entry) (out : Text) where
       × (at + r ≡ behind at e (length out))
   put-there {x} {r} h w =
       let k : length (drop at out) ≤ length out - at = omega (arith, length-drop at out) in
+      let f = wrote-fits w (omega (arith, ap length (left-all out at), length-drop at out)) in
       let a : x ++ drop (length out - at) (drop at out) ≡ x =
       ap (λ (t : Text). x ++ t) (drop-of-length-le (drop at out) k) ∙ append-nil x in
       let b : x ≡ slot-bytes e ++ drop (at + length (slot-bytes e)) out =
-      w .text ∙ ap (λ (t : Text). slot-bytes e ++ drop (length (slot-bytes e)) t) (left-all out at)
+      f .0 ∙ ap (λ (t : Text). slot-bytes e ++ drop (length (slot-bytes e)) t) (left-all out at)
       ∙ ap (λ (t : Text). slot-bytes e ++ t) (drop-drop (length (slot-bytes e)) at out) in
-      (ap (λ (t : Text). take at out ++ t) (a ∙ b) ∙ sym (with-room h .0), ap (λ (m : ℕ). at + m) (w .count) ∙ sym (with-room h .1))
+      (ap (λ (t : Text). take at out ++ t) (a ∙ b) ∙ sym (with-room h .0), ap (λ (m : ℕ). at + m) (f .1) ∙ sym (with-room h .1))
 
   pub slot-keeps : length (put-slot at e out) ≡ length out
   slot-keeps = go (ltb (length out) (at + length (slot-bytes e))) refl
@@ -150,17 +134,17 @@ pub record Sized (ys : List Entry) : Type 0 where
   pub i : ℕ
   pub t : ℕ
   pub le : i ≤ length ys
-  pub bound : t ≤ 17 + i * 157
+  pub bound : t ≤ front-size + i * partner-size
   pub so : size ys ≡ t + length (slots-bytes (drop i ys))
 
-pub size-fits : (ys : List Entry) (i t : ℕ) → t ≤ 17 + i * 157 → i ≤ length ys → length ys * 184 < 2 ^ 63 → t < 2 ^ 64
+pub size-fits : (ys : List Entry) (i t : ℕ) → t ≤ front-size + i * partner-size → i ≤ length ys → length ys * 184 < 2 ^ 63 → t < 2 ^ 64
 size-fits ys i t h k g = omega arith
 
-pub sum-fits : (ys : List Entry) (i t k : ℕ) → t ≤ 17 + i * 157 → k ≤ 157 → i < length ys → length ys * 184 < 2 ^ 63
+pub sum-fits : (ys : List Entry) (i t k : ℕ) → t ≤ front-size + i * partner-size → k ≤ partner-size → i < length ys → length ys * 184 < 2 ^ 63
     → t + k < 2 ^ 64
 sum-fits ys i t k h e w g = omega arith
 
-pub next-bound : (i t k : ℕ) → t ≤ 17 + i * 157 → k ≤ 157 → t + k ≤ 17 + (i + 1) * 157
+pub next-bound : (i t k : ℕ) → t ≤ front-size + i * partner-size → k ≤ partner-size → t + k ≤ front-size + (i + 1) * partner-size
 next-bound i t k h e = omega arith
 
 -- one slot more

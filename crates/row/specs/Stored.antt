@@ -14,7 +14,7 @@ use Rattle.partner.specs.Entry as entries
 use Rattle.calls.specs.Outcome.{refusal}
 use Rattle.outcome.specs.declared.Report.{Report}
 use Rattle.outcome.specs.Report.{report, plain}
-use Rattle.image.specs.Image.{decode, slots-in, slot-bytes, slots-bytes, ours}
+use Rattle.image.specs.Image.{front-size, decode, slots-in, slot-bytes, slots-bytes, ours}
 
 -- start: 13, 10
 unfoldable pub start-answer : Text → ℕ → ℕ
@@ -31,7 +31,7 @@ slots-to-fill answer slots = cond (not (eqb answer 0)) 0 (cond (not (eqb slots 6
 -- a row filled from an image with the answer 0, as it was with any other
 unfoldable pub refilled : ℕ → Text → List Entry → List Entry
 refilled answer image row =
-    cond (eqb (slots-to-fill answer (length row)) 64) (slots-in 64 (drop 17 image)) row
+    cond (eqb (slots-to-fill answer (length row)) 64) (slots-in 64 (drop front-size image)) row
 
 -- ---- image writing
 
@@ -41,7 +41,7 @@ front own = ours ∷ entries.filled own
 
 -- the size of an image: that record and the slots'
 abbrev pub size : List Entry → ℕ
-size slots = 17 + length (slots-bytes slots)
+size slots = front-size + length (slots-bytes slots)
 
 -- 13, 6
 unfoldable pub write-answer : Bool → ℕ → ℕ → ℕ
@@ -63,7 +63,7 @@ put-slots at (e ∷ slots) out = put-slots (behind at e (length out)) slots (put
 
 -- laid behind the front with the answer 0, the buffer as it was with any other
 unfoldable pub laid : ℕ → List Entry → Text → Text
-laid answer slots out = cond (eqb (slots-to-fill answer (length slots)) 64) (put-slots 17 slots out) out
+laid answer slots out = cond (eqb (slots-to-fill answer (length slots)) 64) (put-slots front-size slots out) out
 
 -- likewise the front
 unfoldable pub fronted : ℕ → Text → Text → Text

@@ -145,7 +145,7 @@ pub fn read_image(image: &[u8], row: &mut [Entry]) -> u32
 fn size(row: &[Entry]) -> usize
     ensures { λ r. ⌜ r ≡ stored.size (now (row .entry)) ⌝ }
 {
-    let mut size = 17;
+    let mut size = image::FRONT_SIZE;
     let mut at = 0;
     while at < row.len() {
         size += stored::slot_length(look_up(row, at));
@@ -159,7 +159,7 @@ fn lay(row: &[Entry], out: &mut [u8], answer: u32)
     ensures { λ r. ⌜ now (out .exit) ≡ stored.laid answer (now (row .entry)) (now (out .entry)) ⌝ }
 {
     let count = stored::filled(answer, row.len());
-    let mut to = 17;
+    let mut to = image::FRONT_SIZE;
     let mut at = 0;
     while at < count {
         to = stored::put_slot(out, to, look_up(row, at));

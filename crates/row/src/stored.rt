@@ -2,8 +2,8 @@
 ghost use mathlib.Core.Path.{_≡_};
 ghost use Prim.Native.Nat.{_≤_};
 ghost use lib.ListN.{length};
-ghost use Rattle.octets.specs.Wrote.{Wrote, over};
-ghost use Rattle.image.specs.Image.{slot-bytes};
+ghost use Rattle.octets.specs.Wrote.{Wrote};
+ghost use Rattle.image.specs.Image.{partner-size, slot-bytes};
 ghost use Rattle.row.specs.Stored as stored;
 use outcome::Report;
 use partner::Entry;
@@ -42,21 +42,24 @@ pub fn filled(answer: u32, slots: usize) -> usize
 // The length of a slot's record.
 pub fn slot_length(e: Entry) -> usize
     ensures { λ r. ⌜ r ≡ length (slot-bytes e) ⌝ }
-    ensures { λ r. ⌜ r ≤ 157 ⌝ }
+    ensures { λ r. ⌜ r ≤ partner-size ⌝ }
 {
-    if sight::is_empty(e) { 1 } else { 157 }
+    if sight::is_empty(e) {
+        1
+    } else {
+        image::PARTNER_SIZE
+    }
 }
 
-// A slot's record at the front of what is left: one byte 0, or 2 and the entry's 156 bytes.
+// A slot's record at the front of what is left: one byte 0, or 2 and the entry's record.
 fn put_record(rest: &mut [u8], e: Entry) -> usize
-    requires { ⌜ length (slot-bytes e) ≤ length (now rest) ⌝ }
     ensures { λ r. ⌜ Wrote (slot-bytes e) (now (rest .entry)) (now (rest .exit)) r ⌝ }
 {
     if sight::is_empty(e) {
         return octets::fill(rest, 1, 0);
     }
     let a = octets::fill(rest, 1, 2);
-    a + record::put_entry(&mut rest[a..], e)
+    a + record::put_whole(&mut rest[a..], e)
 }
 
 // A slot's record at a place, where there is room for it; the place behind it.
@@ -82,14 +85,14 @@ pub fn write_answer(legal: bool, size: usize, room: usize) -> u32
     octets::then(answer, room < size, 6)
 }
 
-// Our identity's record, filled: 17 bytes, as many as there is room for.
-fn put_front(out: &mut [u8], own: &[u8])
-    ensures { λ r. ⌜ now (out .exit) ≡ over (stored.front (now (own .entry))) (now (out .entry)) ⌝ }
+// Our identity's record, filled, as many bytes as there is room for.
+fn put_front(out: &mut [u8], own: &[u8]) -> usize
+    ensures { λ r. ⌜ Wrote (stored.front (now (own .entry))) (now (out .entry)) (now (out .exit)) r ⌝ }
 {
-    let mut front = [1u8; 17];
+    let mut front = [1u8; image::FRONT_SIZE];
     let name = partner::name_of(own);
     octets::copy(&mut front[1..], &name.bytes);
-    octets::copy(out, &front);
+    octets::copy(out, &front)
 }
 
 // The front laid where the answer is 0, and the report.

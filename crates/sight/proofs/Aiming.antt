@@ -3,6 +3,7 @@ use mathlib.Core.Path.{_≡_, sym, ap, _∙_}
 use mathlib.Core.Bool.{not, cond}
 use mathlib.Core.Option.{Option, some}
 use Rattle.octets.specs.Text.{Text, same}
+use Rattle.octets.specs.Part.{part}
 use Rattle.csm.specs.Message.{Reading, read}
 use Rattle.reader.specs.declared.Head.{Head}
 use Rattle.reader.specs.declared.Rsi.{Rsi}
@@ -12,7 +13,6 @@ use Rattle.reader.specs.declared.Esm.{Esm}
 use Rattle.reader.specs.declared.Rest.{Rest}
 use Rattle.reader.specs.declared.Message.the-variants as message
 use Rattle.reader.specs.Seen.{seen, head-seen}
-use Rattle.reader.specs.Parts as parts
 use Rattle.reader.proofs.Claims.{claims}
 use Rattle.reader.proofs.SeenBack.{nothing-back, rsi-back, ksm-back, rsm-back, esm-back, option-back}
 use Rattle.sight.specs.declared.aims.Act.{Act}
@@ -26,8 +26,8 @@ aims-as q own who text h = ap (λ (x : Act). aim-of x own who text) (sym h)
 originator-read : (own t : Text) (q : Reading) → read t ≡ some q → originator own t (head-seen q) ≡ of-text own t
 unfolding originator of-reading
 originator-read own t q e =
-    ap (λ (w : Text). cond (not (same w own)) (refused own 2) (at-partner own (parts.org (head-seen q) t))) (claims .rcv t q e)
-    ∙ ap (λ (w : Text). cond (not (same (q .rcv) own)) (refused own 2) (at-partner own w)) (claims .org t q e)
+    ap (λ (w : Text). cond (not (same w own)) (refused own 2) (at-partner own (part t (head-seen q .org)))) (claims .head-parts t q e .rcv)
+    ∙ ap (λ (w : Text). cond (not (same (q .rcv) own)) (refused own 2) (at-partner own w)) (claims .head-parts t q e .org)
     ∙ ap (of-reading own) (sym e)
 
 -- by the head that the code has

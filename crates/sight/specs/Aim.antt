@@ -5,10 +5,10 @@ use mathlib.Core.List.{[]}
 use mathlib.Core.Option.{Option, none, some}
 use Prim.Native.Nat.{ℕ}
 use Rattle.octets.specs.Text.{Text, same, is-name}
+use Rattle.octets.specs.Part.{part}
 use Rattle.csm.specs.Message.{Reading, read}
 use Rattle.partner.specs.Entry.{name-of}
 use Rattle.reader.specs.declared.Head.{Head}
-use Rattle.reader.specs.Parts as parts
 use Rattle.sight.specs.declared.aims.Aim.{Aim}
 use Rattle.sight.specs.declared.aims.Act.{Act}
 use Rattle.sight.specs.declared.aims.Act.the-variants.{Receive, BuildKsm, BuildRsi, GiveUp, Remove, Ask, Load}
@@ -52,7 +52,7 @@ refused own n = record {
 -- the originator of a text to us, by the lengths of RCV and ORG; 2 where RCV is not us
 unfoldable pub originator : Text → Text → Head → Aim
 originator own text head =
-    cond (not (same (parts.rcv head text) own)) (refused own 2) (at-partner own (parts.org head text))
+    cond (not (same (part text (head .rcv)) own)) (refused own 2) (at-partner own (part text (head .org)))
 
 -- the same of a text's reading; 1 where there is none
 unfoldable pub of-reading : Text → Option Reading → Aim

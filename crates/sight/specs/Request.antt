@@ -1,12 +1,14 @@
--- The 73 bytes of a request, as they are lent: number of keys 1; twice key 8, flags 1, name 16; IV's kind 1, IV 8;
--- date flag 1, date 12. Numbers have the high byte first. Another length is 12: a request of no keys.
+-- The bytes of a request, as they are lent. Numbers have the high byte first.
+use mathlib.Core.Path.{refl}
 use mathlib.Core.Bool.{cond}
-use Prim.Native.Nat.{ℕ, _+_}
+use Prim.Native.Nat.{ℕ}
 use lib.Dec.{eqb}
-use lib.ListN.{length, take, drop, getD}
+use lib.ListN.{length}
 use Rattle.octets.specs.Text.{Text}
-use Rattle.octets.specs.Number.{number, copies}
+use Rattle.octets.specs.Number.{copies}
+use Rattle.octets.specs.Codec.{Codec, numeral, plain, _followed-by_, as-record, width, value-at}
 use Rattle.partner.specs.Entry.{zero-name}
+use Rattle.partner.specs.Record.{name-layout}
 use Rattle.calls.specs.declared.Date.{Date}
 use Rattle.calls.specs.declared.KeyRequest.{KeyRequest}
 use Rattle.calls.specs.declared.Request.{Request}
@@ -26,30 +28,48 @@ no-request = record {
   date = record { digits = copies 12 0 };
 }
 
--- k bytes from a place on
-abbrev pub part : ℕ → ℕ → Text → Text
-part k at s = take k (drop at s)
+-- a date: 12
+abbrev pub date-layout : Codec Date
+date-layout = as-record {B = Date} (plain 12) (λ t. record { digits = t }) (λ d. d .digits) (λ d. refl) (λ t. refl)
 
-abbrev pub key-request-in : ℕ → Text → KeyRequest
-key-request-in at s = record {
-  key = number (part 8 at s);
-  flags = getD s (at + 8) 0;
-  name = record { bytes = part 16 (at + 9) s };
-}
+-- a key: key 8, flags 1, name 16
+abbrev pub key-request-layout : Codec KeyRequest
+key-request-layout =
+    as-record {B = KeyRequest} (numeral 8 followed-by numeral 1 followed-by name-layout)
+    (λ v. record { key = v .0; flags = v .1 .0; name = v .1 .1 })
+    (λ k. (k .key, (k .flags, k .name)))
+    (λ k. refl)
+    (λ v. refl)
 
-abbrev pub date-in : ℕ → Text → Date
-date-in at s = record { digits = part 12 at s }
+-- IV's kind 1, IV 8; date flag 1, date 12
+abbrev pub options-layout : Codec (ℕ × (ℕ × (ℕ × Date)))
+options-layout = numeral 1 followed-by numeral 8 followed-by numeral 1 followed-by date-layout
+
+-- number of keys 1, twice such a key, then these
+abbrev pub request-layout : Codec Request
+request-layout =
+    as-record {B = Request}
+    (numeral 1 followed-by key-request-layout followed-by key-request-layout followed-by options-layout)
+    (λ v. record {
+      count = v .0;
+      first = v .1 .0;
+      second = v .1 .1 .0;
+      kind = v .1 .1 .1 .0;
+      iv = v .1 .1 .1 .1 .0;
+      dated = v .1 .1 .1 .1 .1 .0;
+      date = v .1 .1 .1 .1 .1 .1;
+    })
+    (λ r. (r .count, (r .first, (r .second, (r .kind, (r .iv, (r .dated, r .date)))))))
+    (λ r. refl)
+    (λ v. refl)
+
+-- how many bytes it has
+abbrev pub request-size : ℕ
+request-size = width request-layout
 
 unfoldable pub whole-in : Text → Request
-whole-in s = record {
-  count = getD s 0 0;
-  first = key-request-in 1 s;
-  second = key-request-in 26 s;
-  kind = getD s 51 0;
-  iv = number (part 8 52 s);
-  dated = getD s 60 0;
-  date = date-in 61 s;
-}
+whole-in s = value-at request-layout 0 s
 
+-- the request that the bytes are; another length is 12: a request of no keys
 unfoldable pub request-in : Text → Request
-request-in s = cond (eqb (length s) 73) (whole-in s) no-request
+request-in s = cond (eqb (length s) request-size) (whole-in s) no-request

@@ -73,10 +73,10 @@ pub fn ours(own: &[u8]) -> Aim
 fn originator(own: &[u8], text: &[u8], head: Head) -> Aim
     ensures { λ r. ⌜ r ≡ aims.originator (now (own .entry)) (now (text .entry)) head ⌝ }
 {
-    if !octets::same(reader::find::rcv(text, head), own) {
+    if !octets::same(octets::part(text, head.rcv), own) {
         return refused(own, 2);
     }
-    at_partner(own, reader::find::org(text, head))
+    at_partner(own, octets::part(text, head.org))
 }
 
 // The originator of a text; 1 where it is no message.

@@ -33,8 +33,8 @@ pub struct Found {
 pub fn is_empty(e: Entry) -> bool
     ensures { λ r. ⌜ r ≡ is-empty e ⌝ }
 {
-    let mut bytes = [0u8; 156];
-    let zero = [0u8; 156];
+    let mut bytes = [0u8; record::SIZE];
+    let zero = [0u8; record::SIZE];
     record::put_entry(&mut bytes, e);
     octets::same(&bytes, &zero)
 }

@@ -2,6 +2,7 @@
 ghost use mathlib.Core.Path.{_≡_};
 ghost use Prim.Native.Nat.{_+_, _≤_};
 ghost use lib.ListN.{length};
+ghost use Rattle.octets.specs.Codec.{value-at};
 ghost use Rattle.sight.specs.Request as requests;
 use calls::Date;
 use calls::KeyRequest;
@@ -31,11 +32,11 @@ fn no_request() -> Request
 // A data key of a request, from a place on.
 fn key_request_in(s: &[u8], at: usize) -> KeyRequest
     requires { ⌜ at + 25 ≤ length (now s) ⌝ }
-    ensures { λ r. ⌜ r ≡ requests.key-request-in at (now (s .entry)) ⌝ }
+    ensures { λ r. ⌜ r ≡ value-at requests.key-request-layout at (now (s .entry)) ⌝ }
 {
     let flags = at + 8;
-    let name = at + 9;
-    let end = at + 25;
+    let name = flags + 1;
+    let end = name + 16;
     KeyRequest {
         key: octets::number(&s[at..flags]),
         flags: s[flags],
@@ -46,7 +47,7 @@ fn key_request_in(s: &[u8], at: usize) -> KeyRequest
 // A date from a place on.
 fn date_in(s: &[u8], at: usize) -> Date
     requires { ⌜ at + 12 ≤ length (now s) ⌝ }
-    ensures { λ r. ⌜ r ≡ requests.date-in at (now (s .entry)) ⌝ }
+    ensures { λ r. ⌜ r ≡ value-at requests.date-layout at (now (s .entry)) ⌝ }
 {
     let mut digits = [0u8; 12];
     let end = at + 12;
@@ -56,7 +57,7 @@ fn date_in(s: &[u8], at: usize) -> Date
 
 // The request of 73 bytes.
 fn whole_in(s: &[u8]) -> Request
-    requires { ⌜ length (now s) ≡ 73 ⌝ }
+    requires { ⌜ length (now s) ≡ requests.request-size ⌝ }
     ensures { λ r. ⌜ r ≡ requests.whole-in (now (s .entry)) ⌝ }
 {
     Request {

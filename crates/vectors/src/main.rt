@@ -1,5 +1,6 @@
 // Known answers: reads lines of an operation and four numbers, and writes each with its answer.
 ghost use Prim.Native.Nat.{_<_};
+use keying::Blocks;
 use keying::Top;
 
 mod whole;
@@ -37,16 +38,37 @@ fn hex(s: &[u8]) -> u64 {
     n
 }
 
+// A block alone.
+fn alone(block: u64) -> Blocks {
+    Blocks {
+        first: block,
+        second: 0,
+        two: false,
+    }
+}
+
+// A data key under a working key.
+fn seal(key: Top, plain: u64) -> u64 {
+    let sealed = keying::seal(key, alone(plain));
+    sealed.first
+}
+
+// A data key from under a working key.
+fn unseal(key: Top, sealed: u64) -> u64 {
+    let plain = keying::unseal(key, alone(sealed));
+    plain.first
+}
+
 // What an operation answers: E enciphers a block under the left key and D deciphers it; S seals a data key under the left
 // key offset by the count and U unseals it; T seals it under the pair of left and right so offset and V unseals it.
 fn answer(operation: u8, left: u64, right: u64, count: u64, block: u64) -> u64 {
     match operation {
         b'E' => dea::encipher(left, block),
         b'D' => dea::decipher(left, block),
-        b'S' => keying::seal(keying::working(Top::Single(left), count), block),
-        b'U' => keying::unseal(keying::working(Top::Single(left), count), block),
-        b'T' => keying::seal(keying::working(Top::Pair(left, right), count), block),
-        b'V' => keying::unseal(keying::working(Top::Pair(left, right), count), block),
+        b'S' => seal(keying::working(Top::Single(left), count), block),
+        b'U' => unseal(keying::working(Top::Single(left), count), block),
+        b'T' => seal(keying::working(Top::Pair(left, right), count), block),
+        b'V' => unseal(keying::working(Top::Pair(left, right), count), block),
         _ => 0,
     }
 }

@@ -8,15 +8,14 @@ use reader::Message;
 use reader::Rsi;
 use reader::Rsm;
 use writer::Key;
-use writer::Keys;
 use writer::Vector;
 
 fn rsi(reply: &mut [u8], text: &[u8], m: Rsi) -> Written {
     let head = m.head;
     messages::write_rsi(
         reply,
-        reader::find::rcv(text, head),
-        reader::find::org(text, head),
+        octets::part(text, head.rcv),
+        octets::part(text, head.org),
         m.service,
     )
 }
@@ -25,8 +24,8 @@ fn rsm(reply: &mut [u8], text: &[u8], m: Rsm, key: u64) -> Written {
     let head = m.head;
     messages::write_rsm(
         reply,
-        reader::find::rcv(text, head),
-        reader::find::org(text, head),
+        octets::part(text, head.rcv),
+        octets::part(text, head.org),
         key,
     )
 }
@@ -49,31 +48,25 @@ fn esm(reply: &mut [u8], text: &[u8], m: Esm) -> Written {
     let both = counts(m);
     messages::write_esm(
         reply,
-        reader::find::rcv(text, head),
-        reader::find::org(text, head),
-        m.erf,
+        octets::part(text, head.rcv),
+        octets::part(text, head.org),
+        m.erf.value,
         both,
     )
 }
 
-// A KD's key as it stands.
-fn key_of(kd: Kd) -> Key {
+// A KD's key as it stands, with its names.
+fn key_of(text: &[u8], kd: Kd) -> Key {
+    let mut idk1 = [b' '; 16];
+    writer::put_text(&mut idk1, octets::part(text, kd.idk1));
+    let mut idk2 = [b' '; 16];
+    writer::put_text(&mut idk2, octets::part(text, kd.idk2));
     Key {
         sealed: kd.key,
         p: kd.p,
+        idk1,
+        idk2,
     }
-}
-
-// One key or two.
-fn keys(m: Ksm) -> Keys {
-    let first = m.first;
-    let second = m.second;
-    let one = key_of(first.kd);
-    if m.two {
-        let other = key_of(second.kd);
-        return Keys::Two(one, other);
-    }
-    Keys::One(one)
 }
 
 // The IV by its letter.
@@ -88,22 +81,29 @@ fn vector(iv: &[u8]) -> Vector {
     Vector::Plain(value)
 }
 
+// What a KSM says, as its writer takes it.
+fn said(text: &[u8], m: Ksm) -> messages::Ksm {
+    let date = octets::part(text, m.edk);
+    let mut edk = [b'0'; 12];
+    writer::put_text(&mut edk, date);
+    messages::Ksm {
+        first: key_of(text, m.first),
+        two: m.two,
+        second: key_of(text, m.second),
+        vector: vector(octets::part(text, m.iv)),
+        dated: date.len() != 0,
+        edk,
+        ctp: m.ctp.value,
+    }
+}
+
 fn ksm(reply: &mut [u8], text: &[u8], m: Ksm, key: u64) -> Written {
     let head = m.head;
-    let of_iv = vector(reader::find::iv(text, m));
-    let given = keys(m);
     messages::write_ksm(
         reply,
-        reader::find::rcv(text, head),
-        reader::find::org(text, head),
-        given,
-        reader::find::first_idk1(text, m),
-        reader::find::first_idk2(text, m),
-        reader::find::second_idk1(text, m),
-        reader::find::second_idk2(text, m),
-        of_iv,
-        reader::find::edk(text, m),
-        m.ctp,
+        octets::part(text, head.rcv),
+        octets::part(text, head.org),
+        said(text, m),
         key,
     )
 }

@@ -11,8 +11,8 @@ use lib.Seq.{drop-cons}
 use Rattle.octets.specs.Text.{Text}
 use Rattle.octets.proofs.Writing.{length-over}
 use Rattle.csm.specs.Fields.{error-letters, letters-of}
-use Rattle.writer.specs.Laid.{Laid}
-use Rattle.writer.proofs.Laying.{laid-rest, laid-as, laid-nothing}
+use Rattle.octets.specs.Wrote.{Wrote}
+use Rattle.octets.proofs.Writing.{wrote-rest, wrote-as, wrote-nothing}
 
 -- a letter that is in, or nothing
 abbrev pub maybe-letter : ℕ → ℕ → Text
@@ -21,7 +21,7 @@ maybe-letter left c = cond (eqb (left % 2) 1) (c ∷ []) []
 -- the letters of the first i are laid over l, and left has the bits of the others
 pub record Spelling (letters : ℕ) (l l₁ : Text) (left n i : ℕ) : Type 0 where
   pub text : Text
-  pub laid : Laid text l l₁ n
+  pub laid : Wrote text l l₁ n
   pub rest : text ++ letters-of (drop i error-letters) left ≡ letters-of error-letters letters
   pub within : i ≤ 9
   pub size : length l₁ ≡ length l
@@ -30,7 +30,7 @@ pub record Spelling (letters : ℕ) (l l₁ : Text) (left n i : ℕ) : Type 0 wh
 pub spelling-none : (letters : ℕ) (l : Text) → Spelling letters l l letters 0 0
 spelling-none letters l = record {
   text = [];
-  laid = laid-nothing l;
+  laid = wrote-nothing l;
   rest = refl;
   within = omega arith;
   size = refl;
@@ -52,12 +52,12 @@ next i left h =
     go false c t = refl
 
 pub spelling-more : {letters left n m i : ℕ} {l l₁ e : Text} → Spelling letters l l₁ left n i → i < 9
-    → Laid (maybe-letter left (getD error-letters i 0)) (take (length l₁ - n) (drop n l₁)) e m
+    → Wrote (maybe-letter left (getD error-letters i 0)) (take (length l₁ - n) (drop n l₁)) e m
     → Spelling letters l (take n l₁ ++ (e ++ drop (length l₁ - n) (drop n l₁))) (left / 2) (n + m) (i + 1)
 spelling-more {letters} {left} {n} {m} {i} {l} {l₁} {e} p h q =
     let x = maybe-letter left (getD error-letters i 0) in
     let t = letters-of (drop (i + 1) error-letters) (left / 2) in
-    let w = laid-rest (p .laid) q in
+    let w = wrote-rest (p .laid) q in
     let k = w .count in
     record {
       text = p .text ++ x;
@@ -69,8 +69,8 @@ spelling-more {letters} {left} {n} {m} {i} {l} {l₁} {e} p h q =
     }
 
 pub spelling-all : {letters left n i : ℕ} {l l₁ : Text} → Spelling letters l l₁ left n i → 9 ≤ i
-    → Laid (letters-of error-letters letters) l l₁ n
+    → Wrote (letters-of error-letters letters) l l₁ n
 spelling-all {letters} {left} {n} {i} {l} {l₁} p h =
     let e : letters-of (drop i error-letters) left ≡ [] =
     ap (λ (cs : Text). letters-of cs left) (drop-of-length-le error-letters h) in
-    laid-as (sym (append-nil (p .text)) ∙ ap (λ (t : Text). p .text ++ t) (sym e) ∙ p .rest) (p .laid)
+    wrote-as (sym (append-nil (p .text)) ∙ ap (λ (t : Text). p .text ++ t) (sym e) ∙ p .rest) (p .laid)

@@ -1,4 +1,3 @@
-pub mod Laying
 pub mod Numerals
 pub mod Letters
 pub mod Services

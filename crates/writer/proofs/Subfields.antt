@@ -1,17 +1,13 @@
 -- Laws of names that may be none, and of a KD's subfields for their writers.
-use mathlib.Core.Path.{_≡_, refl, sym, ap, _∙_}
+use mathlib.Core.Path.{_≡_, refl}
 use mathlib.Core.Bool.{Bool, true, false}
-use mathlib.Core.List.{[], _∷_, _++_, append-assoc, append-nil}
+use mathlib.Core.List.{[], _∷_, _++_, append-assoc}
 use mathlib.Core.Option.{none, some}
 use Prim.Native.Nat.{_≤_, _<_}
 use native.Mathlib.Omega.{arith}
 use lib.ListN.{length}
 use Rattle.octets.specs.Text.{Text}
-use Rattle.csm.specs.Fields.{sub, mark, subfields, nonempty, field, KD}
-use Rattle.writer.specs.declared.Key.{Key}
-use Rattle.writer.specs.declared.Keys.{Keys}
-use Rattle.writer.specs.declared.Keys.the-variants.{One, Two}
-use Rattle.writer.specs.Contents.{kd-of, keys-text}
+use Rattle.csm.specs.Fields.{sub, mark, subfields, nonempty}
 
 -- an empty text is none, any other is itself
 pub nonempty-none : (w : Text) → length w ≤ 0 → nonempty w ≡ none
@@ -42,16 +38,3 @@ marked p i j h k e = rw (e, nonempty-none i h, nonempty-none j k)
 pub bare-key : (p : Bool) (i j : Text) → length i ≤ 0 → length j ≤ 0 → p ≡ false
     → [] ≡ subfields p (nonempty i) (nonempty j)
 bare-key p i j h k e = rw (e, nonempty-none i h, nonempty-none j k)
-
--- ---- one KD or two
-
-pub one-key : {keys : Keys} (k : Key) (i j v w : Text) → keys ≡ One k
-    → field KD .print (kd-of k i j) ≡ keys-text keys i j v w
-unfolding keys-text
-one-key k i j v w e =
-    sym (append-nil (field KD .print (kd-of k i j))) ∙ ap (λ (x : Keys). keys-text x i j v w) (sym e)
-
-pub two-keys : {keys : Keys} (k l : Key) (i j v w : Text) → keys ≡ Two k l
-    → field KD .print (kd-of k i j) ++ field KD .print (kd-of l v w) ≡ keys-text keys i j v w
-unfolding keys-text
-two-keys k l i j v w e = ap (λ (x : Keys). keys-text x i j v w) (sym e)

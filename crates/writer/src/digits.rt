@@ -8,19 +8,8 @@ ghost use lib.ListN.{length, drop, getD};
 ghost use Rattle.octets.specs.Text.{blank};
 ghost use Rattle.octets.specs.Part.{bare};
 ghost use Rattle.csm.specs.Fields as fields;
-ghost use Rattle.writer.specs.Laid.{Laid};
+ghost use Rattle.octets.specs.Wrote.{Wrote};
 use crate::put_text;
-
-// A byte.
-fn put_byte(rest: &mut [u8], b: u8) -> usize
-    ensures { λ r. ⌜ Laid (b ∷ []) (now (rest .entry)) (now (rest .exit)) r ⌝ }
-{
-    if rest.len() == 0 {
-        return 0;
-    }
-    rest[0] = b;
-    1
-}
 
 // The digit of d: 0 to 9, then A to F.
 fn digit(d: u64) -> u8
@@ -55,7 +44,7 @@ fn smaller(a: usize, b: usize) -> usize
 // The k low hex digits of x, capitals.
 fn put_hex(rest: &mut [u8], k: usize, x: u64) -> usize
     requires { ⌜ k ≤ 16 ⌝ }
-    ensures { λ r. ⌜ Laid (fields.hex-text k x) (now (rest .entry)) (now (rest .exit)) r ⌝ }
+    ensures { λ r. ⌜ Wrote (fields.hex-text k x) (now (rest .entry)) (now (rest .exit)) r ⌝ }
 {
     let n = smaller(k, rest.len());
     let mut place = k;
@@ -70,7 +59,7 @@ fn put_hex(rest: &mut [u8], k: usize, x: u64) -> usize
 
 // Four hex digits and a blank.
 pub(crate) fn put_half(rest: &mut [u8], x: u64) -> usize
-    ensures { λ r. ⌜ Laid (fields.hex-text 4 x ++ blank ∷ []) (now (rest .entry)) (now (rest .exit)) r ⌝ }
+    ensures { λ r. ⌜ Wrote (fields.hex-text 4 x ++ blank ∷ []) (now (rest .entry)) (now (rest .exit)) r ⌝ }
 {
     let a = put_hex(rest, 4, x);
     a + put_text(&mut rest[a..], b" ")
@@ -78,7 +67,7 @@ pub(crate) fn put_half(rest: &mut [u8], x: u64) -> usize
 
 // A text and a block of 64 bits in 16 hex digits.
 pub(crate) fn put_block(rest: &mut [u8], front: &[u8], x: u64) -> usize
-    ensures { λ r. ⌜ Laid (now (front .entry) ++ fields.hex-text 16 x) (now (rest .entry)) (now (rest .exit)) r ⌝ }
+    ensures { λ r. ⌜ Wrote (now (front .entry) ++ fields.hex-text 16 x) (now (rest .entry)) (now (rest .exit)) r ⌝ }
 {
     let a = put_text(rest, front);
     a + put_hex(&mut rest[a..], 16, x)
@@ -86,7 +75,7 @@ pub(crate) fn put_block(rest: &mut [u8], front: &[u8], x: u64) -> usize
 
 // The same and a blank.
 pub(crate) fn put_vector(rest: &mut [u8], front: &[u8], x: u64) -> usize
-    ensures { λ r. ⌜ Laid (now (front .entry) ++ (fields.hex-text 16 x ++ blank ∷ [])) (now (rest .entry)) (now (rest .exit)) r ⌝ }
+    ensures { λ r. ⌜ Wrote (now (front .entry) ++ (fields.hex-text 16 x ++ blank ∷ [])) (now (rest .entry)) (now (rest .exit)) r ⌝ }
 {
     let a = put_block(rest, front, x);
     a + put_text(&mut rest[a..], b" ")
@@ -95,28 +84,28 @@ pub(crate) fn put_vector(rest: &mut [u8], front: &[u8], x: u64) -> usize
 // The number n in decimal, of at most eight digits, no leading zero.
 pub(crate) fn put_decimal(rest: &mut [u8], n: u64) -> usize
     requires { ⌜ n < 100_000_000 ⌝ }
-    ensures { λ r. ⌜ Laid (fields.decimal 7 n) (now (rest .entry)) (now (rest .exit)) r ⌝ }
+    ensures { λ r. ⌜ Wrote (fields.decimal 7 n) (now (rest .entry)) (now (rest .exit)) r ⌝ }
 {
     if n < 10 {
-        return put_byte(rest, digit(n));
+        return octets::fill(rest, 1, digit(n));
     }
     let k = put_decimal(rest, n / 10);
-    k + put_byte(&mut rest[k..], digit(n % 10))
+    k + octets::fill(&mut rest[k..], 1, digit(n % 10))
 }
 
 // A letter, if the lowest bit of `left` is set.
 fn put_letter(rest: &mut [u8], left: u64, letter: u8) -> usize
-    ensures { λ r. ⌜ Laid (cond (eqb (left % 2) 1) (letter ∷ []) []) (now (rest .entry)) (now (rest .exit)) r ⌝ }
+    ensures { λ r. ⌜ Wrote (cond (eqb (left % 2) 1) (letter ∷ []) []) (now (rest .entry)) (now (rest .exit)) r ⌝ }
 {
     if left % 2 == 1 {
-        return put_byte(rest, letter);
+        return octets::fill(rest, 1, letter);
     }
     0
 }
 
 // The letters whose bits are set, in alphabetical order.
 pub(crate) fn put_letters(rest: &mut [u8], letters: u64) -> usize
-    ensures { λ r. ⌜ Laid (fields.letters-of fields.error-letters letters) (now (rest .entry)) (now (rest .exit)) r ⌝ }
+    ensures { λ r. ⌜ Wrote (fields.letters-of fields.error-letters letters) (now (rest .entry)) (now (rest .exit)) r ⌝ }
 {
     let alphabet = b"ABFIKMOPU";
     let mut left = letters;
@@ -133,7 +122,7 @@ pub(crate) fn put_letters(rest: &mut [u8], letters: u64) -> usize
 // What stands in a table from `at` on before the next blank.
 fn put_bare(rest: &mut [u8], table: &[u8], at: usize) -> usize
     requires { ⌜ at ≤ length (now table) ⌝ }
-    ensures { λ r. ⌜ Laid (bare (drop at (now (table .entry)))) (now (rest .entry)) (now (rest .exit)) r ⌝ }
+    ensures { λ r. ⌜ Wrote (bare (drop at (now (table .entry)))) (now (rest .entry)) (now (rest .exit)) r ⌝ }
 {
     let part = &table[at..];
     put_text(rest, octets::bare(part))
@@ -141,7 +130,7 @@ fn put_bare(rest: &mut [u8], table: &[u8], at: usize) -> usize
 
 // A service's contents, by its place among the twelve.
 pub(crate) fn put_service(rest: &mut [u8], service: u64) -> usize
-    ensures { λ r. ⌜ Laid (getD fields.services service []) (now (rest .entry)) (now (rest .exit)) r ⌝ }
+    ensures { λ r. ⌜ Wrote (getD fields.services service []) (now (rest .entry)) (now (rest .exit)) r ⌝ }
 {
     if 12 <= service {
         return 0;

@@ -5,22 +5,19 @@ ghost use Prim.Native.Nat.{_%_};
 ghost use Rattle.octets.specs.Text.{blank};
 ghost use Rattle.csm.specs.Format as formats;
 ghost use Rattle.csm.specs.Fields as fields;
-ghost use Rattle.writer.specs.Laid.{Laid};
+ghost use Rattle.octets.specs.Wrote.{Wrote};
 ghost use Rattle.writer.specs.Contents as contents;
 
 mod digits;
 mod kd;
 
-// A data key as enciphered for a KD, and whether it is marked P.
+// A data key as it stands in a KD: enciphered, whether it is marked P, and its names IDK1 and IDK2, each filled up with
+// blanks; a name of blanks alone is none.
 pub struct Key {
     pub sealed: u64,
     pub p: bool,
-}
-
-// The data keys of a KSM.
-pub enum Keys {
-    One(Key),
-    Two(Key, Key),
+    pub idk1: [u8; 16],
+    pub idk2: [u8; 16],
 }
 
 // The IV of a KSM: none, its value, or its enciphered value.
@@ -32,14 +29,14 @@ pub enum Vector {
 
 // A text.
 pub fn put_text(rest: &mut [u8], text: &[u8]) -> usize
-    ensures { λ r. ⌜ Laid (now (text .entry)) (now (rest .entry)) (now (rest .exit)) r ⌝ }
+    ensures { λ r. ⌜ Wrote (now (text .entry)) (now (rest .entry)) (now (rest .exit)) r ⌝ }
 {
     octets::copy(rest, text)
 }
 
 // A field whose contents stand for themselves: tag, contents, blank.
 pub fn put_field(rest: &mut [u8], tag: &[u8], text: &[u8]) -> usize
-    ensures { λ r. ⌜ Laid (now (tag .entry) ++ (now (text .entry) ++ blank ∷ [])) (now (rest .entry)) (now (rest .exit)) r ⌝ }
+    ensures { λ r. ⌜ Wrote (now (tag .entry) ++ (now (text .entry) ++ blank ∷ [])) (now (rest .entry)) (now (rest .exit)) r ⌝ }
 {
     let a = put_text(rest, tag);
     let b = a + put_text(&mut rest[a..], text);
@@ -48,7 +45,7 @@ pub fn put_field(rest: &mut [u8], tag: &[u8], text: &[u8]) -> usize
 
 // A count, CTP or CTR: tag, its eight low digits in decimal, blank.
 pub fn put_count(rest: &mut [u8], tag: &[u8], n: u64) -> usize
-    ensures { λ r. ⌜ Laid (now (tag .entry) ++ (fields.decimal 7 (n % 100_000_000) ++ blank ∷ [])) (now (rest .entry)) (now (rest .exit)) r ⌝ }
+    ensures { λ r. ⌜ Wrote (now (tag .entry) ++ (fields.decimal 7 (n % 100_000_000) ++ blank ∷ [])) (now (rest .entry)) (now (rest .exit)) r ⌝ }
 {
     let a = put_text(rest, tag);
     let b = a + digits::put_decimal(&mut rest[a..], n % 100_000_000);
@@ -57,7 +54,7 @@ pub fn put_count(rest: &mut [u8], tag: &[u8], n: u64) -> usize
 
 // ERF: the letters whose bits are set, A the lowest.
 pub fn put_erf(rest: &mut [u8], letters: u64) -> usize
-    ensures { λ r. ⌜ Laid (fields.field fields.ERF .print letters) (now (rest .entry)) (now (rest .exit)) r ⌝ }
+    ensures { λ r. ⌜ Wrote (fields.field fields.ERF .print letters) (now (rest .entry)) (now (rest .exit)) r ⌝ }
 {
     let a = put_text(rest, b"ERF/");
     let b = a + digits::put_letters(&mut rest[a..], letters);
@@ -66,7 +63,7 @@ pub fn put_erf(rest: &mut [u8], letters: u64) -> usize
 
 // MAC: four hex digits, blank, four hex digits.
 pub fn put_mac(rest: &mut [u8], mac: u32) -> usize
-    ensures { λ r. ⌜ Laid (fields.field fields.MAC .print mac) (now (rest .entry)) (now (rest .exit)) r ⌝ }
+    ensures { λ r. ⌜ Wrote (fields.field fields.MAC .print mac) (now (rest .entry)) (now (rest .exit)) r ⌝ }
 {
     let m = mac as u64;
     let a = put_text(rest, b"MAC/");
@@ -76,7 +73,7 @@ pub fn put_mac(rest: &mut [u8], mac: u32) -> usize
 
 // SVR: the service's contents, by its place among the twelve; none has a further place.
 pub fn put_svr(rest: &mut [u8], service: u64) -> usize
-    ensures { λ r. ⌜ Laid (fields.field fields.SVR .print service) (now (rest .entry)) (now (rest .exit)) r ⌝ }
+    ensures { λ r. ⌜ Wrote (fields.field fields.SVR .print service) (now (rest .entry)) (now (rest .exit)) r ⌝ }
 {
     let a = put_text(rest, b"SVR/");
     let b = a + digits::put_service(&mut rest[a..], service);
@@ -85,7 +82,7 @@ pub fn put_svr(rest: &mut [u8], service: u64) -> usize
 
 // IV, if there is one: P and its value, or E and its enciphered value.
 pub fn put_iv(rest: &mut [u8], vector: Vector) -> usize
-    ensures { λ r. ⌜ Laid (formats.maybe-print (fields.field fields.IV) (contents.iv-of vector)) (now (rest .entry)) (now (rest .exit)) r ⌝ }
+    ensures { λ r. ⌜ Wrote (formats.maybe-print (fields.field fields.IV) (contents.iv-of vector)) (now (rest .entry)) (now (rest .exit)) r ⌝ }
 {
     match vector {
         Vector::Absent => 0,
@@ -94,32 +91,23 @@ pub fn put_iv(rest: &mut [u8], vector: Vector) -> usize
     }
 }
 
-// EDK, if there is one: an empty one is none.
-pub fn put_edk(rest: &mut [u8], edk: &[u8]) -> usize
-    ensures { λ r. ⌜ Laid (formats.maybe-print (fields.field fields.EDK) (fields.nonempty (now (edk .entry)))) (now (rest .entry)) (now (rest .exit)) r ⌝ }
+// EDK, if there is one.
+pub fn put_edk(rest: &mut [u8], dated: bool, edk: &[u8]) -> usize
+    ensures { λ r. ⌜ Wrote (formats.maybe-print (fields.field fields.EDK) (contents.there dated (now (edk .entry)))) (now (rest .entry)) (now (rest .exit)) r ⌝ }
 {
-    if edk.len() == 0 {
-        return 0;
+    if dated {
+        return put_field(rest, b"EDK/", edk);
     }
-    put_field(rest, b"EDK/", edk)
+    0
 }
 
-// One KD or two, each with its names: an empty name is none.
-pub fn put_keys(
-    rest: &mut [u8],
-    keys: Keys,
-    idk1: &[u8],
-    idk2: &[u8],
-    second_idk1: &[u8],
-    second_idk2: &[u8],
-) -> usize
-    ensures { λ r. ⌜ Laid (contents.keys-text keys (now (idk1 .entry)) (now (idk2 .entry)) (now («second_idk1» .entry)) (now («second_idk2» .entry))) (now (rest .entry)) (now (rest .exit)) r ⌝ }
+// One KD or two.
+pub fn put_keys(rest: &mut [u8], first: Key, two: bool, second: Key) -> usize
+    ensures { λ r. ⌜ Wrote (contents.keys-text first two second) (now (rest .entry)) (now (rest .exit)) r ⌝ }
 {
-    match keys {
-        Keys::One(key) => kd::put_kd(rest, key, idk1, idk2),
-        Keys::Two(key, other) => {
-            let a = kd::put_kd(rest, key, idk1, idk2);
-            a + kd::put_kd(&mut rest[a..], other, second_idk1, second_idk2)
-        }
+    let a = kd::put_kd(rest, first);
+    if two {
+        return a + kd::put_kd(&mut rest[a..], second);
     }
+    a
 }

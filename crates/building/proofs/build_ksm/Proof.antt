@@ -1,7 +1,7 @@
 -- `building::build_ksm` meets its contract: a refusal by its number, or the message. Assumes nothing.
 use mathlib.Core.Path.{sym, ap, _∙_}
 use lib.ListN.{length}
-use Rattle.partner.specs.Changes.{issued}
+use Rattle.partner.specs.Changes.{with-sending, issued}
 use Rattle.calls.specs.Build.{outgoing-of, ksm-text}
 use Rattle.building.proofs.Judging.{good, refused-by}
 use Rattle.building.proofs.Turning.{refuses, does}
@@ -22,14 +22,16 @@ write-requires c κs = sym (c .before .before .judge .ensures) ∙ c .before .if
 
 returns-2 : tie.Need-returns-2
 returns-2 c =
-    let s = c .before .before .before .before .before .before .before in
+    let s = c .before .before .before .before .before .before .before .before in
     let a = s .before .before .before .before .args in
     let h = sym (s .before .judge .ensures) ∙ s .if1 .left in
     let g = good (a .own .now) (a .e) (length (a .reply .now)) (a .q) h in
-    let w = c .before .before .before .before .before .write .ensures in
-    does (issued (a .e) (outgoing-of (a .q))) (ksm-text (a .own .now) (a .e) (a .q)) (a .reply .now) (g .turn)
-    (c .before .issued .ensures ∙ ap (issued (a .e)) (c .before .before .outgoing .ensures)) (c .told-nothing .ensures)
-    (w .0) (w .1)
+    let w = c .before .before .before .before .before .before .write .ensures in
+    let sent =
+    c .before .with-sending .ensures ∙ ap (with-sending (a .e)) (c .before .before .issued .ensures
+    ∙ ap (issued (a .e .sending)) (c .before .before .before .outgoing .ensures)) in
+    does (with-sending (a .e) (issued (a .e .sending) (outgoing-of (a .q)))) (ksm-text (a .own .now) (a .e) (a .q))
+    (a .reply .now) (g .turn) sent (c .told-nothing .ensures) (w .0) (w .1)
 
 pub build-ksm-spec : {M : Type 1} → statement M
 build-ksm-spec =
@@ -39,6 +41,7 @@ build-ksm-spec =
     (λ c κs. search needs)
     returns
     write-requires
+    (λ c κs. search needs)
     (λ c κs. search needs)
     (λ c κs. search needs)
     (λ c κs. search needs)

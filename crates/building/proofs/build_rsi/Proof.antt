@@ -38,7 +38,7 @@ write-rsi-requires c κs =
     let w = s .before .before .before .before .before .before .args .contents .now in
     let v = c .before .before .value .given in (
       ready (s .before .before .is-sound .ensures) (s .before .if1 .left) (s .if2 .left),
-      service-known w (v .0 .0) (v .0 .1 .0) (sym (c .before .before .before .before .service .ensures) ∙ v .1),
+      service-known w (v .0 .0) (sym (c .before .before .before .before .service .ensures) ∙ v .1),
     )
 
 returns-4 : tie.Need-returns-4
@@ -49,7 +49,7 @@ returns-4 c =
     let v = c .before .before .before .before .before .before .value .given in
     let n = sym (c .before .before .before .before .before .before .before .before .service .ensures) ∙ v .1 in
     let w = c .before .before .before .write-rsi .ensures in
-    let t = rsi-some (a .own .now) (a .e) (length (a .reply .now)) (a .contents .now) (v .0 .0) (v .0 .1 .0) g n in
+    let t = rsi-some (a .own .now) (a .e) (length (a .reply .now)) (a .contents .now) (v .0 .0) g n in
     does (a .e) (rsi-text (a .own .now) (a .e) (v .0 .0)) (a .reply .now) t refl (c .told-nothing .ensures) (w .0) (w .1)
 
 pub build-rsi-spec : {M : Type 1} → statement M

@@ -16,7 +16,7 @@ use Rattle.sight.specs.declared.aims.Act.the-variants.{Load}
 use Rattle.sight.specs.Aim.{with-room}
 use Rattle.turn.specs.Way.{turn}
 use Rattle.card.specs.Ways.{aim, top-of, name-with, seen}
-use Rattle.card.specs.Whole.{largest}
+use Rattle.image.specs.Image.{largest}
 use Rattle.card.proofs.Delivering.{delivered-so}
 use Rattle.card.proofs.Roomed.{load-all, load-so}
 use Rattle.card.proofs.Ends.{refused-end, way-went, aimed-as, found-as}

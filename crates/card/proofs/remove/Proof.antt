@@ -11,7 +11,7 @@ use Rattle.sight.specs.declared.aims.Act.the-variants.{Remove}
 use Rattle.sight.specs.Aim.{with-room}
 use Rattle.turn.specs.Way.{turn}
 use Rattle.card.specs.Ways.{aim}
-use Rattle.card.specs.Whole.{largest}
+use Rattle.image.specs.Image.{largest}
 use Rattle.card.proofs.Delivering.{delivered-so}
 use Rattle.card.proofs.Roomed.{remove-all, remove-so}
 use Rattle.card.proofs.Ends.{refused-end, way-went, found-as}

@@ -1,11 +1,10 @@
--- `fields::contents` meets its contract: contents end at the first blank. Assumes nothing.
-use Prim.Native.Nat.{_+_}
-use mathlib.Core.Path.{sym, ap, refl, _∙_}
+-- `fields::contents` meets its contract: behind the tag, up to the first blank. Assumes nothing.
+use mathlib.Core.Path.{refl, sym, ap, _∙_}
 use native.Mathlib.Omega.{arith}
-use lib.ListN.{length, drop, length-drop}
+use lib.ListN.{drop, length-drop}
 use borrow.Author.Tests.{not-true, not-false}
 use Rattle.octets.proofs.Comparing.{starts-fits}
-use Rattle.fields.specs.Steps.{part-seen}
+use Rattle.fields.specs.Seen.{taken, itself, place-of}
 use Rattle.fields.proofs.PieceLaws.{no-tag, piece-between, piece-endless}
 use borrow.Author.Needs.{needs}
 use Rattle.fields.proofs.contents.Statement.{statement}
@@ -13,9 +12,10 @@ use Rattle.fields.proofs.contents.Tie as tie
 
 returns : tie.Need-returns
 returns c =
-    let a = c .before .before .before .before .args in
-    let no = sym (c .before .starts .ensures) ∙ not-true _ (c .if1 .taken) in
-    sym (ap (part-seen (a .at + length (a .tag .now))) (no-tag (a .tag .now) (drop (a .at) (a .text .now)) no))
+    let a = c .before .before .before .before .before .args in
+    let no = sym (c .before .before .starts .ensures) ∙ not-true _ (c .before .if1 .taken) in
+    c .missing .ensures
+    ∙ sym (ap (λ o. place-of itself (a .at) (a .tag .now) (taken o)) (no-tag (a .tag .now) (drop (a .at) (a .text .now)) no))
 
 add-from : tie.Need-add-from
 add-from c =
@@ -26,18 +26,31 @@ add-from c =
 
 returns-2 : tie.Need-returns-2
 returns-2 c =
-    let a = c .before .before .before .before .before .before .args in
     let k = c .before .before in
+    let a = k .before .before .before .before .args in
     let yes = sym (k .before .starts .ensures) ∙ not-false _ (k .if1 .left) in
     sym (piece-between (a .tag .now) (a .text .now) (a .at) _ _ yes refl (c .before .until .ensures) (c .if2 .taken))
 
 returns-3 : tie.Need-returns-3
 returns-3 c =
-    let a = c .before .before .before .before .before .before .args in
-    let k = c .before .before in
+    let e = c .before in
+    let k = e .before .before in
+    let a = k .before .before .before .before .args in
     let yes = sym (k .before .starts .ensures) ∙ not-false _ (k .if1 .left) in
-    sym (piece-endless (a .tag .now) (a .text .now) (a .at) _ _ yes refl (c .before .until .ensures) (c .if2 .left))
+    c .missing2 .ensures
+    ∙ sym (piece-endless (a .tag .now) (a .text .now) (a .at) _ _ yes refl (e .before .until .ensures) (e .if2 .left))
 
 pub contents-spec : {M : Type 1} → statement M
 contents-spec =
-    tie.close (tie.spec (λ c κs. search needs) returns add-from (λ c κs. search needs) returns-2 returns-3)
+    tie.close
+    (tie.spec
+    (λ c κs. search needs)
+    (λ c κs. search needs)
+    returns
+    add-from
+    (λ c κs. search needs)
+    (λ c. search needs)
+    (λ c. search needs)
+    returns-2
+    (λ c κs. search needs)
+    returns-3)

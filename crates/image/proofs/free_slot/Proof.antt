@@ -5,7 +5,7 @@ use native.Mathlib.Omega.{arith}
 use borrow.Author.Needs.{needs}
 use lib.ListN.{getD}
 use Rattle.octets.specs.Text.{Text}
-use Rattle.image.specs.Image.{record-length}
+use Rattle.image.specs.Image.{record-length, front-size, partner-size}
 use Rattle.image.specs.Places.{seek-free, free-slot}
 use Rattle.image.proofs.Steps.{length-small, free-hit, free-miss, free-end}
 use Rattle.image.proofs.free_slot.Statement.{statement}
@@ -13,7 +13,7 @@ use Rattle.image.proofs.free_slot.Tie as tie
 
 abbrev Inv-loop : tie.InvT-loop
 Inv-loop image at₀ slot₀ at slot =
-    (slot ≤ 64) × ((at ≤ 17 + 157 * slot) × (seek-free 64 0 17 image ≡ seek-free (64 - slot) slot at image))
+    (slot ≤ 64) × ((at ≤ front-size + partner-size * slot) × (seek-free 64 0 front-size image ≡ seek-free (64 - slot) slot at image))
 
 abbrev μ-loop : tie.MeasureT-loop
 μ-loop image at₀ slot₀ at slot = 64 - slot

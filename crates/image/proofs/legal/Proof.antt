@@ -9,7 +9,7 @@ use lib.ListN.{getD}
 use Rattle.octets.specs.Text.{Text}
 use Rattle.octets.specs.Part.{found}
 use Rattle.octets.proofs.Comparing.{octets-lent}
-use Rattle.image.specs.Image.{record-length, decode}
+use Rattle.image.specs.Image.{record-length, decode, front-size, partner-size, largest}
 use Rattle.image.specs.Pass.{front-legal, record-legal}
 use Rattle.image.proofs.Legality.{legal-pass}
 use Rattle.image.proofs.Passes.{records-legal, records-end, records-step}
@@ -19,7 +19,7 @@ use Rattle.image.proofs.legal.Tie as tie
 
 abbrev Inv-loop : tie.InvT-loop
 Inv-loop image at₀ left₀ at left =
-    (left ≤ 64) × ((at + 157 * left ≤ 10_065) × (found (decode image) ≡ records-legal left at image))
+    (left ≤ 64) × ((at + partner-size * left ≤ largest) × (found (decode image) ≡ records-legal left at image))
 
 abbrev μ-loop : tie.MeasureT-loop
 μ-loop image at₀ left₀ at left = left
@@ -33,7 +33,7 @@ returns c =
     let o = octets-lent im (c .before .before .shared-slice-known .given) in
     let front = c .before .front-legal in
     let f : front-legal im ≡ false = sym (front .ensures) ∙ not-true (front .result) (c .if1 .taken) in
-    sym (legal-pass im o ∙ ap (λ (b : Bool). b && records-legal 64 17 im) f)
+    sym (legal-pass im o ∙ ap (λ (b : Bool). b && records-legal 64 front-size im) f)
 
 loop-holds : tie.Need-loop-holds Inv-loop μ-loop
 loop-holds c =
@@ -41,7 +41,7 @@ loop-holds c =
     let o = octets-lent im (c .before .before .shared-slice-known .given) in
     let front = c .before .front-legal in
     let f : front-legal im ≡ true = sym (front .ensures) ∙ not-false (front .result) (c .if1 .left) in
-    (search needs, (search needs, legal-pass im o ∙ ap (λ (b : Bool). b && records-legal 64 17 im) f))
+    (search needs, (search needs, legal-pass im o ∙ ap (λ (b : Bool). b && records-legal 64 front-size im) f))
 
 sub-left : tie.Need-sub-left Inv-loop μ-loop
 sub-left c = search needs

@@ -5,6 +5,7 @@ use Prim.Native.Nat.{_+_}
 use borrow.Author.Needs.{needs}
 use Rattle.octets.specs.Text.{Text}
 use Rattle.partner.specs.Legal.{legal}
+use Rattle.image.specs.Image.{partner-size}
 use Rattle.image.specs.Pass.{identity-at, apart-from}
 use Rattle.image.specs.Places.{entry-at}
 use Rattle.image.proofs.Steps.{legal-vacant, legal-other, legal-short, legal-whole}
@@ -34,17 +35,16 @@ returns-3 c =
 
 returns-4 : tie.Need-returns-4
 returns-4 c =
-    let a = c .before .before .before .before .before .before .before .before .before .before .args in
+    let a = c .before .before .before .before .before .before .before .before .before .args in
     let im : Text = a .image .now in
-    let kind = c .before .before .before .before .before .before .before .before .byte-at .ensures in
-    let e = c .before .before .before .before .entry-at .ensures in
+    let kind = c .before .before .before .before .before .before .before .byte-at .ensures in
+    let e = c .before .before .before .entry-at .ensures in
     let l : legal (entry-at (a .at) im) ≡ true =
-    ap legal (sym e) ∙ sym (c .before .before .before .legal .ensures) ∙ c .before .before .if4 .taken in
+    ap legal (sym e) ∙ sym (c .before .before .legal .ensures) ∙ c .before .if4 .taken in
     let id : Text = identity-at (a .at) im in
-    let fits = c .before .before .before .before .before in
+    let fits = c .before .before .before .before in
     let whole = legal-whole (a .left) (a .at) im (sym kind ∙ fits .before .if2 .left) (fits .if3 .left) in
-    c .is-apart .ensures ∙ ap (λ (t : Text). apart-from (a .left) (a .at + 157) t im) (c .before .part .ensures)
-    ∙ sym (whole ∙ ap (λ (b : Bool). b && apart-from (a .left) (a .at + 157) id im) l)
+    c .is-apart .ensures ∙ sym (whole ∙ ap (λ (b : Bool). b && apart-from (a .left) (a .at + partner-size) id im) l)
 
 returns-5 : tie.Need-returns-5
 returns-5 c =
@@ -56,7 +56,7 @@ returns-5 c =
     let id : Text = identity-at (a .at) im in
     let fits = c .before .before .before in
     let whole = legal-whole (a .left) (a .at) im (sym kind ∙ fits .before .if2 .left) (fits .if3 .left) in
-    c .if4 .left ∙ sym (whole ∙ ap (λ (b : Bool). b && apart-from (a .left) (a .at + 157) id im) l)
+    c .if4 .left ∙ sym (whole ∙ ap (λ (b : Bool). b && apart-from (a .left) (a .at + partner-size) id im) l)
 
 pub record-legal-spec : {M : Type 1} → statement M
 record-legal-spec =
@@ -68,8 +68,6 @@ record-legal-spec =
     (λ c. search needs)
     returns-3
     (λ c κs. search needs)
-    (λ c κs. search needs)
-    (λ c. search needs)
     (λ c κs. search needs)
     (λ c. search needs)
     (λ c κs. search needs)

@@ -4,6 +4,7 @@ use Prim.Native.Nat.{ℕ}
 use borrow.Author.Needs.{needs}
 use lib.ListN.{getD, drop}
 use Rattle.octets.specs.Text.{Text}
+use Rattle.image.specs.Image.{front-size}
 use Rattle.image.specs.Places.{slot-place, entry-at}
 use Rattle.image.proofs.Standing.{past-64, partner-there, nobody-there}
 use Rattle.image.proofs.slot.Statement.{statement}
@@ -12,7 +13,7 @@ use Rattle.image.proofs.slot.Tie as tie
 returns : tie.Need-returns
 returns c =
     let a = c .before .before .before .args in
-    c .empty .ensures ∙ past-64 (a .slot) (drop 17 (a .image .now)) (c .before .if1 .taken)
+    c .empty .ensures ∙ past-64 (a .slot) (drop front-size (a .image .now)) (c .before .if1 .taken)
 
 returns-2 : tie.Need-returns-2
 returns-2 c =

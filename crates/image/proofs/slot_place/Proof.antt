@@ -5,7 +5,7 @@ use Prim.Native.Nat.{ℕ, _+_, _-_, _*_, _≤_}
 use native.Mathlib.Omega.{arith}
 use lib.ListN.{getD}
 use Rattle.octets.specs.Text.{Text}
-use Rattle.image.specs.Image.{record-length}
+use Rattle.image.specs.Image.{record-length, front-size, partner-size, largest}
 use Rattle.image.specs.Places.{past, slot-place}
 use Rattle.image.proofs.Steps.{length-small, past-one, past-none}
 use Rattle.image.proofs.slot_place.Statement.{statement}
@@ -13,7 +13,7 @@ use Rattle.image.proofs.slot_place.Tie as tie
 
 abbrev Inv-loop : tie.InvT-loop
 Inv-loop image slot at₀ left₀ at left =
-    (left ≤ 64) × ((at + 157 * left ≤ 10_065) × (past slot 17 image ≡ past left at image))
+    (left ≤ 64) × ((at + partner-size * left ≤ largest) × (past slot front-size image ≡ past left at image))
 
 abbrev μ-loop : tie.MeasureT-loop
 μ-loop image slot at₀ left₀ at left = left

@@ -43,11 +43,7 @@ same-length : tie.Need-same-length Inv-loop μ-loop
 same-length c = omega arith
 
 returns : tie.Need-returns Inv-loop μ-loop
-returns c =
-    let l = c .before in
-    let a = l .before .before .before .args in
-    let d = laying-all (l .loop .inv) (omega arith) in
-    (d .0, omega (arith, d .1, length-copies (a .k) (a .b)))
+returns c = laying-all (c .before .loop .inv) (omega arith)
 
 pub fill-spec : {M : Type 1} → statement M
 fill-spec =

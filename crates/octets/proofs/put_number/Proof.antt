@@ -52,11 +52,7 @@ same-length : tie.Need-same-length Inv-loop μ-loop
 same-length c = omega arith
 
 returns : tie.Need-returns Inv-loop μ-loop
-returns c =
-    let l = c .before in
-    let a = l .before .before .before .args in
-    let d = laying-all (l .loop .inv .1) (omega arith) in
-    (d .0, omega (arith, d .1, length-bytes (a .k) (a .x)))
+returns c = laying-all (c .before .loop .inv .1) (omega arith)
 
 pub put-number-spec : {M : Type 1} → statement M
 put-number-spec =

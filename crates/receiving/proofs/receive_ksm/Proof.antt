@@ -1,8 +1,9 @@
 -- `receiving::receive_ksm` meets its contract: stage by stage, with letters or the next. Assumes nothing.
-use mathlib.Core.Path.{_≡_, refl, _∙_}
+use mathlib.Core.Path.{_≡_, refl, ap, _∙_}
 use native.Mathlib.Omega.{arith}
 use Rattle.csm.proofs.TextLaws.{within-true}
 use Rattle.partner.specs.Entry.{limit}
+use Rattle.partner.specs.Changes.{with-receiving}
 use Rattle.calls.specs.Receive.{judged, receive-ksm}
 use Rattle.outcome.proofs.Turns.{gives}
 use Rattle.receiving.specs.Texts.{ksm-in}
@@ -43,15 +44,15 @@ opened-at c =
 
 -- F, M or P: the letters with the counts, and the turn
 misjudged-at : (c : tie.After-counts-for)
-    → let j = c .before .before in
+    → let j = c .before .before .before in
     let a = j .before .before .before .before .before .before .before .before .before .args in
     Refuses (a .own .now) (a .e) (a .m) (a .text .now) (j .judge .result .letters) (counts-in (c .counts-for .result))
 misjudged-at c =
-    let j = c .before .before in
+    let j = c .before .before .before in
     let s = j .before .before .before .before .before .before .before .before .before in
     stage-misjudged (s .args .own .now) (s .args .e) (s .args .m) (s .args .text .now) (j .before .brought .result)
     (opened-at (j .before)) (j .judge .result) (j .judge .ensures) (s .pre .1)
-    (sound-legal (s .args .own .now) (s .args .e) (s .pre .0 .lawful)) (c .counts-for .result) (c .before .if1 .taken)
+    (sound-legal (s .args .own .now) (s .args .e) (s .pre .0 .lawful)) (c .counts-for .result) (c .before .before .if1 .taken)
     (c .counts-for .ensures)
 
 error-requires : tie.Need-error-requires
@@ -69,14 +70,14 @@ returns c =
 
 error-requires-2 : tie.Need-error-requires-2
 error-requires-2 c κs =
-    let j = c .before .before .before in
+    let j = c .before .before .before .before in
     let s = j .before .before .before .before .before .before .before .before .before in
     (s .pre .0, misjudged-at (c .before) .lawful)
 
 returns-2 : tie.Need-returns-2
 returns-2 c =
     let l = c .before .before .before .before in
-    let j = l .before .before in
+    let j = l .before .before .before in
     let t = misjudged-at l .refusal in
     let r = c .before .before .error2 .ensures in
     let a = j .before .before .before .before .before .before .before .before .before .args in
@@ -86,12 +87,12 @@ cast-accepted : tie.Need-cast-accepted
 cast-accepted c =
     let j = c .before .before .before .before .before .before .before in
     let s = j .before .before .before .before .before .before .before .before .before in
-    let n = within-true 1 limit (s .args .m .ctp) (count-within (s .args .m) (s .args .text .now) (s .pre .1)) in
+    let n = within-true 1 limit (s .args .m .ctp .value) (count-within (s .args .m) (s .args .text .now) (s .pre .1)) in
     record { fits = omega (arith, n .1) }
 
 returns-3 : tie.Need-returns-3
 returns-3 c =
-    let w = c .before .before .before .before in
+    let w = c .before .before .before .before .before in
     let g = w .before .before .before in
     let j = g .before in
     let s = j .before .before .before .before .before .before .before .before .before in
@@ -101,7 +102,7 @@ returns-3 c =
     (j .judge .result) (j .judge .ensures) (g .if1 .left) in
     let told = stage-told (a .own .now) (a .e) (a .m) (a .text .now) set (opened-at (j .before))
     (j .judge .result) (j .judge .ensures) (w .confirm .ensures .0) in
-    (gives _ turn (c .accepted .ensures) told, w .confirm .ensures .1 ∙ fronts _ _ (a .reply .now) turn)
+    (gives _ turn (c .with-receiving .ensures ∙ ap (with-receiving (a .e)) (c .before .accepted .ensures)) told, w .confirm .ensures .1 ∙ fronts _ _ (a .reply .now) turn)
 
 pub receive-ksm-spec : {M : Type 1} → statement M
 receive-ksm-spec =
@@ -122,6 +123,7 @@ receive-ksm-spec =
     returns-2
     (λ c κs. search needs)
     cast-accepted
+    (λ c κs. search needs)
     (λ c κs. search needs)
     (λ c. search needs)
     returns-3)

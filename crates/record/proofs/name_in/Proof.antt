@@ -4,7 +4,7 @@ use Prim.Native.Nat.{_-_}
 use native.Mathlib.Omega.{arith}
 use lib.ListN.{length, length-drop}
 use borrow.Author.Needs.{needs}
-use Rattle.partner.proofs.Storing.{part-none, part-copied}
+use Rattle.octets.proofs.Parts.{part-none, part-copied}
 use Rattle.partner.proofs.Naming.{name-as}
 use Rattle.record.proofs.name_in.Statement.{statement}
 use Rattle.record.proofs.name_in.Tie as tie
@@ -19,7 +19,7 @@ returns-2 c =
     let a = c .before .before .before .before .before .before .args in
     let s = a .s .now in
     let h = length-drop (a .at) s in
-    name-as (c .before .copy .ensures .0 ∙ part-copied 16 (a .at) (length s - a .at) s (omega arith))
+    name-as (c .before .copy .ensures .text ∙ part-copied 16 (a .at) (length s - a .at) s (omega arith))
 
 pub name-in-spec : {M : Type 1} → statement M
 name-in-spec =

@@ -8,9 +8,10 @@ use borrow.Author.Needs.{needs}
 use Rattle.octets.proofs.Comparing.{octets-lent}
 use Rattle.octets.specs.Text.{Text}
 use Rattle.octets.specs.Number.{number}
-use Rattle.partner.specs.Record.{number-in}
+use Rattle.octets.specs.Codec.{numeral, value-at}
+use Rattle.octets.proofs.Parts.{length-part, part-front, part-fits}
+use Rattle.octets.proofs.Codecs.{fits-read}
 use Rattle.partner.specs.declared.Name.{Name}
-use Rattle.partner.proofs.Storing.{length-part, part-front, number-in-below, number-in-fits}
 use Rattle.record.proofs.number_in.Statement.{statement}
 use Rattle.record.proofs.number_in.Tie as tie
 
@@ -29,15 +30,15 @@ slice-aggregate-number c =
 
 returns : tie.Need-returns
 returns c =
-    let read = c .before .before .before in
-    let a = read .before .before .args in
+    let named = c .before .before .before in
+    let a = named .before .before .args in
     let s = a .s .now in
-    let o = octets-lent s (read .before .shared-slice-known .given) in
+    let o = octets-lent s (named .before .shared-slice-known .given) in
     let f = part-front (a .k) 16 (a .at) s (omega arith) in
-    let e = ap (λ (n : Name). take (a .k) (n .bytes)) (read .name-in .ensures) ∙ f in
-    let r : c .number .result ≡ number-in (a .k) (a .at) s =
-    c .number .ensures ∙ ap (λ (t : Text). number t % 2 ^ 64) e ∙ number-in-fits (a .k) (a .at) s o (omega arith) in
-    (r, omega (arith, r, number-in-below (a .k) (a .at) s o))
+    let e = ap (λ (n : Name). take (a .k) (n .bytes)) (named .name-in .ensures) ∙ f in
+    let r : c .number .result ≡ value-at (numeral (a .k)) (a .at) s =
+    c .number .ensures ∙ ap (λ (t : Text). number t % 2 ^ 64) e ∙ part-fits (a .k) (a .at) s o (omega arith) in
+    (r, omega (arith, r, fits-read (numeral (a .k)) (a .at) s o))
 
 pub number-in-spec : {M : Type 1} → statement M
 number-in-spec =

@@ -1,17 +1,20 @@
 -- Names, then form and top key.
-use native.Mathlib.Omega.{arith}
+use mathlib.Core.List.{append-assoc}
 use borrow.Author.Needs.{needs}
-use Rattle.octets.proofs.Writing.{wrote-rest}
-use Rattle.partner.specs.Record.{front-bytes}
+use Rattle.octets.specs.Codec.{numeral, _followed-by_, written}
+use Rattle.octets.proofs.Writing.{wrote-rest, wrote-as}
 use Rattle.record.proofs.put_front.Statement.{statement}
 use Rattle.record.proofs.put_front.Tie as tie
 
 returns : tie.Need-returns
-unfolding front-bytes
 returns c =
     let second = c .before .before in
     let first = second .before .before .before .before in
-    (wrote-rest (first .put-names .ensures .0) (second .put-top .ensures .0), omega arith)
+    let e = first .before .before .before .before .args .e in
+    let k = e .top in
+    let key = written (numeral 1 followed-by numeral 8 followed-by numeral 8) (k .form, (k .left, k .right)) in
+    wrote-as (append-assoc (e .identity .bytes) (k .name .bytes) key)
+    (wrote-rest (first .put-names .ensures) (second .put-top .ensures))
 
 pub put-front-spec : {M : Type 1} → statement M
 put-front-spec =

@@ -1,5 +1,4 @@
 -- Set after set.
-use native.Mathlib.Omega.{arith}
 use borrow.Author.Needs.{needs}
 use Rattle.octets.proofs.Writing.{wrote-rest}
 use Rattle.record.proofs.put_sets.Statement.{statement}
@@ -8,8 +7,7 @@ use Rattle.record.proofs.put_sets.Tie as tie
 returns : tie.Need-returns
 returns c =
     let second = c .before .before in
-    let first = second .before .before .before .before in
-    (wrote-rest (first .put-set .ensures .0) (second .put-set2 .ensures .0), omega arith)
+    wrote-rest (second .before .before .before .before .put-set .ensures) (second .put-set2 .ensures)
 
 pub put-sets-spec : {M : Type 1} → statement M
 put-sets-spec =

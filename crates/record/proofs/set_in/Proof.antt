@@ -1,11 +1,9 @@
 -- Part by part.
 use borrow.Author.Needs.{needs}
-use Rattle.partner.specs.Record.{set-in}
 use Rattle.record.proofs.set_in.Statement.{statement}
 use Rattle.record.proofs.set_in.Tie as tie
 
 returns : tie.Need-returns
-unfolding set-in
 returns c = cc
 
 pub set-in-spec : {M : Type 1} → statement M
@@ -15,6 +13,7 @@ set-in-spec =
     (λ c κs. search needs)
     (λ c. search needs)
     (λ c κs. search needs)
+    (λ c. search needs)
     (λ c. search needs)
     (λ c κs. search needs)
     returns)

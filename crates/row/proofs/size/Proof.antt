@@ -45,7 +45,7 @@ use denote.Triple.Clauses.{ensured, lasts}
 use denote.Exit.{yes}
 use Rattle.partner.specs.declared.Entry.{Entry}
 use Rattle.partner.specs.Entry.{empty}
-use Rattle.image.specs.Image.{slot-bytes}
+use Rattle.image.specs.Image.{partner-size, slot-bytes}
 use Rattle.row.specs.Stored.{size}
 use Rattle.partner.proofs.Entry as T
 use Rattle.partner.proofs.Entry.Laws as T′
@@ -129,9 +129,9 @@ module _ {M : Type 1} (𝓤 : URA M) (H : Heap 𝓤) (A : Atoms 𝓤) (W : Given
   asks-length : (r : Entry) (u : Val) → Is R r (u ∷ []) → ent 𝓤 (emp 𝓤) (SlotLength 𝓤 H A mem run .pre (to-length r u))
   asks-length r u is = qed W [] ∵ nothing ! $ owned ! T.the-row (Is T.the-row) (LL.makes T.the-type T′.the-plain 𝓤 H A) r _ is $ fjoin ! $ nothing ! $ join ! $ frame ! $ done !
 
-  said-length : (r : Entry) (k : ℕ) → ent 𝓤 (ensured 𝓤 H A slot-length′.ended (slot-length′.clauses 𝓤 H A mem run) tt (r, tt) tt k) (fact 𝓤 ((k ≡ length (slot-bytes r)) × (k ≤ 157)))
-  said-length r k = exE 𝓤 _ (λ ws. via 𝓤 (sep 𝓤 (fact 𝓤 (k ≡ length (slot-bytes r))) (fact 𝓤 (k ≤ 157)))
-      (snd∗ 𝓤 (sem 𝓤 H A (lasts slot-length′.ended tt (r, tt) ws)) (sep 𝓤 (fact 𝓤 (k ≡ length (slot-bytes r))) (fact 𝓤 (k ≤ 157)))) (one-fact 𝓤 _ _))
+  said-length : (r : Entry) (k : ℕ) → ent 𝓤 (ensured 𝓤 H A slot-length′.ended (slot-length′.clauses 𝓤 H A mem run) tt (r, tt) tt k) (fact 𝓤 ((k ≡ length (slot-bytes r)) × (k ≤ partner-size)))
+  said-length r k = exE 𝓤 _ (λ ws. via 𝓤 (sep 𝓤 (fact 𝓤 (k ≡ length (slot-bytes r))) (fact 𝓤 (k ≤ partner-size)))
+      (snd∗ 𝓤 (sem 𝓤 H A (lasts slot-length′.ended tt (r, tt) ws)) (sep 𝓤 (fact 𝓤 (k ≡ length (slot-bytes r))) (fact 𝓤 (k ≤ partner-size)))) (one-fact 𝓤 _ _))
 
   module _ (𝓣 : Tables 𝓤 H) (fm : FmC 𝓤 H (W .laws) (𝓣 .C)) (known-l : Triple 𝓤 (𝓣 .C #row·look-up) (LookUp 𝓤 H A mem run)) (known-s : Triple 𝓤 (𝓣 .C #row·slot-length) (SlotLength 𝓤 H A mem run))
       (gn : Room R n) (l₀ l₁ l₂ l₃ l₄ l₅ l₆ : ℕ) where
@@ -169,7 +169,7 @@ module _ {M : Type 1} (𝓤 : URA M) (H : Heap 𝓤) (A : Atoms 𝓤) (W : Given
         hears ! tt R (‵ (flft κ q) ⊛ ‵ ftrue) _ (λ r. r ≡ getD ys (s .i) empty) (said-look 𝓤 H A mem run κ q row (s .i)) u (id⊢ 𝓤 _) (λ r er ir.
         land ! (from ! (stop !)) (init ! 2 refl (LL.lawful T.the-type T′.the-laws 𝓤 H A W .typed r _ ir .0)) $ use0 W (raw (SlotLength 𝓤 H A mem run .pre (to-length r u))) (asks-length r u ir) $
         calls-at ! fm (SlotLength 𝓤 H A mem run) known-s (to-length r u) (and-then ! (load ! (from ! (stop !)) (look ! 3 refl)) (no-more !)) (λ w.
-        hears ! tt usize (‵ ftrue) _ (λ k. (k ≡ length (slot-bytes r)) × (k ≤ 157)) (said-length r) w (id⊢ 𝓤 _) (λ k ek ik. drop ! $
+        hears ! tt usize (‵ ftrue) _ (λ k. (k ≡ length (slot-bytes r)) × (k ≤ partner-size)) (said-length r) w (id⊢ 𝓤 _) (λ k ek ik. drop ! $
         land ! (from ! (stop !)) (store ! 6 refl (uint-lawful 𝓤 H A W w64 .typed k _ ik .0)) $ rewrite ! 6 (λ (z : Val). ‵ (fat fullShare word l₄ 0 z)) (ap only (ik .0)) refl $
         assigns ! (bin ! (load ! (from ! (stop !)) (look ! 10 refl)) (load ! (from ! (stop !)) (look ! 6 refl)) (record { fits = (sum-fits ys (s .i) (s .t) k (s .bound) (ek .1) within (gn .1)) })) (from ! (stop !)) (store ! 10 refl (tt, record { fits = (sum-fits ys (s .i) (s .t) k (s .bound) (ek .1) within (gn .1)) })) $
         assigns-last ! (bin ! (load ! (from ! (stop !)) (look ! 8 refl)) (lit ! tt) (record { fits = nf })) (from ! (stop !)) (store ! 8 refl (tt, record { fits = nf })) $ forget ! 2 refl $

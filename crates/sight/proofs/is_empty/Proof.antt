@@ -1,8 +1,8 @@
--- `sight::is_empty` meets its contract: the record has 156 bytes. Assumes nothing.
+-- `sight::is_empty` meets its contract: the record fills its bytes. Assumes nothing.
 use mathlib.Core.List.{append-nil}
 use Rattle.octets.specs.Text.{Text, same}
 use Rattle.octets.specs.Number.{copies}
-use Rattle.partner.specs.Record.{entry-bytes, put-entry}
+use Rattle.partner.specs.Record.{entry-size, entry-bytes, put-entry}
 use mathlib.Core.Path.{ap, _∙_}
 use borrow.Author.Needs.{needs}
 use Rattle.partner.specs.Table.{is-empty}
@@ -13,7 +13,7 @@ returns : tie.Need-returns
 unfolding is-empty put-entry
 returns c =
     let a = c .before .before .before .before .before .before .args in
-    c .same .ensures ∙ ap (λ (w : Text). same w (copies 156 0)) (c .before .before .before .before .put-entry .ensures .0 ∙ append-nil (entry-bytes (a .e)))
+    c .same .ensures ∙ ap (λ (w : Text). same w (copies entry-size 0)) (c .before .before .before .before .put-entry .ensures .0 ∙ append-nil (entry-bytes (a .e)))
 
 pub is-empty-spec : {M : Type 1} → statement M
 is-empty-spec =

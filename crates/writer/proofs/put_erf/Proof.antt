@@ -2,7 +2,7 @@
 use mathlib.Core.List.{[], _∷_, append-assoc}
 use Rattle.octets.specs.Text.{ascii, blank}
 use Rattle.csm.specs.Fields.{error-letters, letters-of}
-use Rattle.writer.proofs.Laying.{laid-rest, laid-as}
+use Rattle.octets.proofs.Writing.{wrote-rest, wrote-as}
 use borrow.Author.Needs.{needs}
 use Rattle.writer.proofs.put_erf.Statement.{statement}
 use Rattle.writer.proofs.put_erf.Tie as tie
@@ -13,8 +13,8 @@ returns c =
     let v = w .before .before .before .before .before in
     let u = v .before .before .before .before in
     let a = u .before .before .before .before .args in
-    laid-as (append-assoc (ascii "ERF/") (letters-of error-letters (a .letters)) (blank ∷ []))
-    (laid-rest (laid-rest (u .put-text .ensures) (v .put-letters .ensures)) (w .put-text2 .ensures))
+    wrote-as (append-assoc (ascii "ERF/") (letters-of error-letters (a .letters)) (blank ∷ []))
+    (wrote-rest (wrote-rest (u .put-text .ensures) (v .put-letters .ensures)) (w .put-text2 .ensures))
 
 pub put-erf-spec : {M : Type 1} → statement M
 put-erf-spec =

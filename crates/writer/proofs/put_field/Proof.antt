@@ -1,7 +1,7 @@
 -- `writer::put_field` meets its contract: tag, contents and blank, one after the other. Assumes nothing.
 use mathlib.Core.List.{[], _∷_, append-assoc}
 use Rattle.octets.specs.Text.{blank}
-use Rattle.writer.proofs.Laying.{laid-rest, laid-as}
+use Rattle.octets.proofs.Writing.{wrote-rest, wrote-as}
 use borrow.Author.Needs.{needs}
 use Rattle.writer.proofs.put_field.Statement.{statement}
 use Rattle.writer.proofs.put_field.Tie as tie
@@ -12,8 +12,8 @@ returns c =
     let v = w .before .before .before .before .before in
     let u = v .before .before .before .before in
     let a = u .before .before .before .before .before .args in
-    laid-as (append-assoc (a .tag .now) (a .text .now) (blank ∷ []))
-    (laid-rest (laid-rest (u .put-text .ensures) (v .put-text2 .ensures)) (w .put-text3 .ensures))
+    wrote-as (append-assoc (a .tag .now) (a .text .now) (blank ∷ []))
+    (wrote-rest (wrote-rest (u .put-text .ensures) (v .put-text2 .ensures)) (w .put-text3 .ensures))
 
 pub put-field-spec : {M : Type 1} → statement M
 put-field-spec =

@@ -4,7 +4,7 @@ use Rattle.csm.specs.Format.{maybe-print}
 use Rattle.csm.specs.Fields.{field, IV}
 use Rattle.writer.specs.declared.Vector.{Vector}
 use Rattle.writer.specs.Contents.{iv-of}
-use Rattle.writer.proofs.Laying.{laid-as, laid-nothing}
+use Rattle.octets.proofs.Writing.{wrote-as, wrote-nothing}
 use borrow.Author.Needs.{needs}
 use Rattle.writer.proofs.put_iv.Statement.{statement}
 use Rattle.writer.proofs.put_iv.Tie as tie
@@ -13,19 +13,19 @@ returns : tie.Need-returns
 returns c =
     let e = c .enum-told .given .1 in
     let l = c .before .before .before .args .rest .now in
-    laid-as (ap (λ (v : Vector). maybe-print (field IV) (iv-of v)) (sym e)) (laid-nothing l)
+    wrote-as (ap (λ (v : Vector). maybe-print (field IV) (iv-of v)) (sym e)) (wrote-nothing l)
 
 returns-2 : tie.Need-returns-2
 returns-2 c =
     let w = c .before .before in
     let e = w .before .before .before .before .vector .given .1 in
-    laid-as (ap (λ (v : Vector). maybe-print (field IV) (iv-of v)) (sym e)) (w .put-vector .ensures)
+    wrote-as (ap (λ (v : Vector). maybe-print (field IV) (iv-of v)) (sym e)) (w .put-vector .ensures)
 
 returns-3 : tie.Need-returns-3
 returns-3 c =
     let w = c .before .before in
     let e = w .before .before .before .before .vector2 .given .1 in
-    laid-as (ap (λ (v : Vector). maybe-print (field IV) (iv-of v)) (sym e)) (w .put-vector2 .ensures)
+    wrote-as (ap (λ (v : Vector). maybe-print (field IV) (iv-of v)) (sym e)) (w .put-vector2 .ensures)
 
 pub put-iv-spec : {M : Type 1} → statement M
 put-iv-spec =

@@ -3,7 +3,7 @@ use mathlib.Core.List.{[], _∷_, _++_, append-assoc}
 use Prim.Native.Nat.{_/_, _%_}
 use Rattle.octets.specs.Text.{ascii, blank}
 use Rattle.csm.specs.Fields.{hex-text}
-use Rattle.writer.proofs.Laying.{laid-rest, laid-as}
+use Rattle.octets.proofs.Writing.{wrote-rest, wrote-as}
 use borrow.Author.Needs.{needs}
 use Rattle.writer.proofs.put_mac.Statement.{statement}
 use Rattle.writer.proofs.put_mac.Tie as tie
@@ -14,8 +14,8 @@ returns c =
     let v = w .before .before .before .before in
     let u = v .before .before .before .before in
     let m = u .before .before .before .before .args .mac in
-    laid-as (append-assoc (ascii "MAC/") (hex-text 4 (m / 65536) ++ blank ∷ []) (hex-text 4 (m % 65536) ++ blank ∷ []))
-    (laid-rest (laid-rest (u .put-text .ensures) (v .put-half .ensures)) (w .put-half2 .ensures))
+    wrote-as (append-assoc (ascii "MAC/") (hex-text 4 (m / 65536) ++ blank ∷ []) (hex-text 4 (m % 65536) ++ blank ∷ []))
+    (wrote-rest (wrote-rest (u .put-text .ensures) (v .put-half .ensures)) (w .put-half2 .ensures))
 
 pub put-mac-spec : {M : Type 1} → statement M
 put-mac-spec =

@@ -3,7 +3,7 @@ use mathlib.Core.List.{[], _∷_, append-assoc}
 use lib.ListN.{getD}
 use Rattle.octets.specs.Text.{ascii, blank}
 use Rattle.csm.specs.Fields.{services}
-use Rattle.writer.proofs.Laying.{laid-rest, laid-as}
+use Rattle.octets.proofs.Writing.{wrote-rest, wrote-as}
 use borrow.Author.Needs.{needs}
 use Rattle.writer.proofs.put_svr.Statement.{statement}
 use Rattle.writer.proofs.put_svr.Tie as tie
@@ -14,8 +14,8 @@ returns c =
     let v = w .before .before .before .before .before in
     let u = v .before .before .before .before in
     let a = u .before .before .before .before .args in
-    laid-as (append-assoc (ascii "SVR/") (getD services (a .service) []) (blank ∷ []))
-    (laid-rest (laid-rest (u .put-text .ensures) (v .put-service .ensures)) (w .put-text2 .ensures))
+    wrote-as (append-assoc (ascii "SVR/") (getD services (a .service) []) (blank ∷ []))
+    (wrote-rest (wrote-rest (u .put-text .ensures) (v .put-service .ensures)) (w .put-text2 .ensures))
 
 pub put-svr-spec : {M : Type 1} → statement M
 put-svr-spec =

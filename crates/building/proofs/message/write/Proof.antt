@@ -6,40 +6,24 @@ use Rattle.csm.specs.Message.{Reading}
 use Rattle.partner.specs.Entry.{keys-in}
 use Rattle.messages.specs.Answers.{answer, length-of, buffer}
 use Rattle.building.proofs.Judging.{good}
-use Rattle.building.proofs.Wording.{name-made, made-reading, ksm-wrote}
+use Rattle.building.proofs.Wording.{made, ksm-wrote}
 use borrow.Author.Needs.{needs}
 use Rattle.building.proofs.message.write.Statement.{statement}
 use Rattle.building.proofs.message.write.Tie as tie
 
 returns : tie.Need-returns
 returns c =
-    let date = c .before .before .before .before .before in
-    let iv = date .before .before .before .before .before in
-    let four = iv .before in
-    let three = four .before .before .before .before in
-    let two = three .before .before .before .before .before in
-    let one = two .before .before .before .before .before in
-    let k = one .before .before .before .before .before in
+    let call = c .before .before .before in
+    let k = call .before in
     let t = k .before .before .before .before .before .before in
-    let s = t .before .before .before .before .before .before .before .before .before .before .before .before in
+    let s = t .before .before .before .before .before .before in
     let a = s .args in
     let l = a .reply .now in
     let w = ksm-wrote (a .own .now) (a .e) (a .q) l (good (a .own .now) (a .e) (length l) (a .q) (s .pre)) in
-    let r = made-reading (a .own .now) (a .e) (a .q) (record {
-      to = k .before .bare .ensures;
-      are = k .sealed-keys .ensures;
-      idk1 = name-made (a .q .first .name .bytes) (one .written .ensures) (one .before .wants-idk1 .ensures);
-      idk2 = name-made (a .e .name .bytes) (two .written2 .ensures) (two .before .wants-idk2 .ensures);
-      second-idk1 =
-          name-made (a .q .second .name .bytes) (three .written3 .ensures) (three .before .wants-idk12 .ensures);
-      second-idk2 = name-made (a .e .name .bytes) (four .written4 .ensures) (four .before .wants-idk22 .ensures);
-      vector = iv .vector .ensures;
-      edk = date .dated .ensures;
-      key =
-          t .mac-key .ensures
-          ∙ ap mac-key (t .before .data-keys .ensures ∙ ap keys-in (t .before .before .outgoing .ensures));
-    }) in
-    let m = c .before .before .before .write-ksm .ensures in (
+    let key = t .mac-key .ensures
+    ∙ ap mac-key (t .before .data-keys .ensures ∙ ap keys-in (t .before .before .outgoing .ensures)) in
+    let r = made (a .own .now) (a .e) (a .q) (k .before .bare .ensures) (k .ksm-for .ensures) key in
+    let m = call .write-ksm .ensures in (
       c .length-of .ensures ∙ ap length-of (m .0 ∙ ap (λ (x : Reading). answer x l) r) ∙ w .0,
       m .1 ∙ ap (λ (x : Reading). buffer x l) r ∙ w .1,
     )
@@ -53,17 +37,6 @@ write-spec =
     (λ c κs. search needs)
     (λ c κs. search needs)
     (λ c κs. search needs)
-    (λ c κs. search needs)
-    (λ c κs. search needs)
-    (λ c κs. search needs)
-    (λ c κs. search needs)
-    (λ c κs. search needs)
-    (λ c κs. search needs)
-    (λ c κs. search needs)
-    (λ c κs. search needs)
-    (λ c κs. search needs)
-    (λ c κs. search needs)
-    (λ c. search needs)
     (λ c κs. search needs)
     (λ c κs. search needs)
     (λ c. search needs)

@@ -17,9 +17,9 @@ returns c =
 returns-2 : tie.Need-returns-2
 unfolding theirs
 returns-2 c =
-    let a = c .before .before .before .before .before .before .before .before .args in
+    let a = c .before .before .before .before .before .before .before .args in
     c .slot-of .ensures
-    ∙ sym (ap (λ (b : Bool). cond b 64 (slot-of (a .aim .partner .bytes) (a .image .now))) (c .before .before .before .before .before .if1 .left))
+    ∙ sym (ap (λ (b : Bool). cond b 64 (slot-of (a .aim .partner .bytes) (a .image .now))) (c .before .before .before .before .if1 .left))
 
 pub theirs-spec : {M : Type 1} → statement M
 theirs-spec =

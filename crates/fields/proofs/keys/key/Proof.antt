@@ -1,18 +1,21 @@
 -- `fields::keys::key` meets its contract: 16 hex digits, and behind a dot subfields. Assumes nothing.
 use mathlib.Core.Path.{_≡_, sym, ap, _∙_}
 use mathlib.Core.Bool.{Bool, true, false}
-use Prim.Native.Nat.{ℕ, _+_}
+use Prim.Native.Nat.{ℕ, _+_, _^_, _<_}
 use native.Mathlib.Omega.{arith}
 use lib.ListN.{length, take, drop}
 use borrow.Author.Tests.{not-true, not-false}
-use Rattle.octets.specs.Text.{Text, is-run}
+use Rattle.octets.specs.Text.{Text, dot, is-run}
+use Rattle.octets.specs.Part.{before, nowhere}
+use Rattle.octets.specs.declared.Span.{Span}
 use Rattle.csm.specs.Format.{value}
 use Rattle.csm.specs.Fields.{numeral, split, kd}
-use Rattle.fields.specs.Seen.{key-seen}
-use Rattle.fields.specs.Steps.{alone, subfields-seen}
+use Rattle.fields.specs.Steps.{key-seen, subfields-seen}
+use Rattle.fields.specs.declared.Kd.{Kd}
+use Rattle.fields.specs.declared.keys.Keyed.the-variants as key
 use Rattle.fields.specs.declared.keys.Subfields.the-variants.{Are}
 use Rattle.fields.proofs.DigitLaws.{digits-of}
-use Rattle.fields.proofs.KeyLaws.{keyed, key-none, key-alone, key-more}
+use Rattle.fields.proofs.KeyLaws.{behind-dot, keyed, key-none, key-alone, key-more}
 use borrow.Author.Needs.{needs}
 use Rattle.fields.proofs.keys.key.Statement.{statement}
 use Rattle.fields.proofs.keys.key.Tie as tie
@@ -26,7 +29,7 @@ returns : tie.Need-returns
 returns c =
     let k = c .before .before .before in
     let no = digits-are (c .before) false (not-true _ (c .if1 .taken)) in
-    sym (key-none (k .before .before .args .w .now) _ (k .until .ensures) no)
+    sym (key-none (k .before .before .args .at) (k .before .before .args .w .now) _ (k .until .ensures) no)
 
 yes : (c : tie.Else1) → let k = c .before .before .before in
     is-run 70 16 16 (take (k .until .result) (k .before .before .args .w .now)) ≡ true
@@ -42,41 +45,79 @@ key-is : (c : tie.After-numeral) → let k = c .before .before .before .before i
     numeral 16 0 (take (k .until .result) (k .before .before .args .w .now)) ≡ c .numeral .result
 key-is c = ap (numeral 16 0) (sym (c .before .before .before .front .ensures)) ∙ sym (c .numeral .ensures)
 
+-- where the contents stand
+abbrev all-of : ℕ → Text → Span
+all-of at w = record { at = at; length = length w }
+
 returns-2 : tie.Need-returns-2
 returns-2 c =
-    let d = c .before in
+    let d = c .before .before in
     let k = d .before .before .before .before in
-    let w = k .before .before .args .w .now in
-    sym (key-alone w _ (k .until .ensures) (c .if2 .taken) true (yes (d .before))
-    ∙ ap (λ (n : ℕ). keyed true n (length w) (Are false 0 0)) (key-is d))
+    let a = k .before .before .args in
+    let w = a .w .now in
+    sym (key-alone (a .at) w _ (k .until .ensures) (c .before .if2 .taken) true (yes (d .before))
+    ∙ ap (λ (n : ℕ). keyed true n (all-of (a .at) w) (Are false nowhere nowhere)) (key-is d)
+    ∙ ap (λ (n : Kd). key.Is (record {
+      key = d .numeral .result;
+      p = n .p;
+      contents = all-of (a .at) w;
+      idk1 = n .idk1;
+      idk2 = n .idk2;
+    })) (sym (c .no-key .ensures)))
+
+-- what stands behind the key has its place
+room : (c : tie.After-behind) → let k = c .before .before .before .before .before .before in
+    k .before .before .args .at + k .until .result + 1 + length (c .behind .result .now) < 2 ^ 64
+room c =
+    let k = c .before .before .before .before .before .before in
+    let a = k .before .before .args in
+    omega (
+      arith,
+      behind-dot (a .at) (a .w .now) _ (k .until .ensures) (c .before .if2 .left),
+      k .before .before .pre,
+      ap length (c .behind .ensures),
+    )
+
+add-mark-and-names : tie.Need-add-mark-and-names
+add-mark-and-names c = omega (arith, room c)
+
+add-mark-and-names-2 : tie.Need-add-mark-and-names-2
+add-mark-and-names-2 c = omega (arith, room c)
+
+mark-and-names-requires : tie.Need-mark-and-names-requires
+mark-and-names-requires c κs = room c
 
 -- the key and what its subfields give
 behind-key : (c : tie.After-mark-and-names) → let d = c .before .before .before in
-    let k = d .before .before .before .before in let w = k .before .before .args .w .now in
-    key-seen (alone (value kd w)) ≡ keyed true (d .numeral .result) (length w) (c .mark-and-names .result)
+    let k = d .before .before .before .before in let a = k .before .before .args in
+    key-seen (a .at) (value kd (a .w .now))
+    ≡ keyed true (d .numeral .result) (all-of (a .at) (a .w .now)) (c .mark-and-names .result)
 behind-key c =
     let d = c .before .before .before in
     let k = d .before .before .before .before in
-    let w = k .before .before .args .w .now in
+    let a = k .before .before .args in
+    let w = a .w .now in
     let n = k .until .result in
-    key-more w n (k .until .ensures) (c .before .before .if2 .left) true (yes (d .before))
-    ∙ ap (λ (m : ℕ). keyed true m (length w) (subfields-seen (split (drop (n + 1) w)))) (key-is d)
-    ∙ ap (λ (t : Text). keyed true (d .numeral .result) (length w) (subfields-seen (split t)))
+    let o = all-of (a .at) w in
+    key-more (a .at) w n (k .until .ensures) (c .before .before .if2 .left) (yes (d .before))
+    ∙ ap (λ (m : ℕ). keyed true m o (subfields-seen (a .at + n + 1 + before dot (drop (n + 1) w) + 1) (split (drop (n + 1) w))))
+    (key-is d)
+    ∙ ap (λ (t : Text). keyed true (d .numeral .result) o (subfields-seen (a .at + n + 1 + before dot t + 1) (split t)))
     (sym (c .before .behind .ensures))
-    ∙ ap (keyed true (d .numeral .result) (length w)) (sym (c .mark-and-names .ensures))
+    ∙ ap (keyed true (d .numeral .result) o) (sym (c .mark-and-names .ensures))
 
 returns-3 : tie.Need-returns-3
 returns-3 c =
     let d = c .before .before .before .before .before in
-    let w = d .before .before .before .before .before .before .args .w .now in
-    sym (behind-key (c .before .before) ∙ ap (keyed true (d .numeral .result) (length w)) (c .enum-told .given .1))
+    let a = d .before .before .before .before .before .before .args in
+    sym (behind-key (c .before .before) ∙ ap (keyed true (d .numeral .result) (all-of (a .at) (a .w .now))) (c .enum-told .given .1))
 
 returns-4 : tie.Need-returns-4
 returns-4 c =
     let d = c .before .before .before .before .before .before in
-    let w = d .before .before .before .before .before .before .args .w .now in
+    let a = d .before .before .before .before .before .before .args in
     sym (behind-key (c .before .before .before)
-    ∙ ap (keyed true (d .numeral .result) (length w)) (c .before .p .given .1))
+    ∙ ap (keyed true (d .numeral .result) (all-of (a .at) (a .w .now))) (c .before .p .given .1))
 
 pub key-spec : {M : Type 1} → statement M
 key-spec =
@@ -87,9 +128,12 @@ key-spec =
     (λ c κs. search needs)
     returns
     numeral-requires
+    (λ c κs. search needs)
     returns-2
     (λ c κs. search needs)
-    (λ c κs. search needs)
+    add-mark-and-names
+    add-mark-and-names-2
+    mark-and-names-requires
     (λ c. search needs)
     (λ c. search needs)
     returns-3

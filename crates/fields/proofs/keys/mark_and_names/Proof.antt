@@ -2,14 +2,17 @@
 use mathlib.Core.Path.{_≡_, sym, ap, _∙_}
 use mathlib.Core.Bool.{Bool, true, false}
 use mathlib.Core.List.{[], _∷_}
-use Prim.Native.Nat.{_+_}
-use lib.ListN.{take, drop}
+use Prim.Native.Nat.{ℕ, _+_, _^_, _<_}
+use native.Mathlib.Nat.{zero-add}
+use native.Mathlib.Omega.{arith}
+use lib.ListN.{length, take, drop}
 use borrow.Author.Tests.{not-true, not-false}
-use Rattle.octets.specs.Text.{Text, ascii, same}
+use Rattle.octets.specs.Text.{Text, ascii, dot, same}
+use Rattle.octets.specs.Part.{before}
 use Rattle.csm.specs.Fields.{split}
 use Rattle.csm.proofs.KdTest.{is-mark}
 use Rattle.fields.specs.Steps.{subfields-seen}
-use Rattle.fields.proofs.KeyLaws.{marked, mark-one, mark-more}
+use Rattle.fields.proofs.KeyLaws.{behind-dot, marked, mark-one, mark-more}
 use borrow.Author.Needs.{needs}
 use Rattle.fields.proofs.keys.mark_and_names.Statement.{statement}
 use Rattle.fields.proofs.keys.mark_and_names.Tie as tie
@@ -25,42 +28,72 @@ returns c =
     let p = c .before .before in
     let k = p .before .before .before in
     let w = k .before .before .args .w .now in
-    sym (mark-one w _ (k .until .ensures) (c .before .if1 .taken) true (p-is p ∙ c .if2 .taken))
+    sym (mark-one _ w _ (k .until .ensures) (c .before .if1 .taken) true (p-is p ∙ c .if2 .taken))
 
 returns-2 : tie.Need-returns-2
 returns-2 c =
     let p = c .before .before in
     let k = p .before .before .before in
     let w = k .before .before .args .w .now in
-    sym (mark-one w _ (k .until .ensures) (c .before .if1 .taken) false (p-is p ∙ c .if2 .left))
+    sym (mark-one _ w _ (k .until .ensures) (c .before .if1 .taken) false (p-is p ∙ c .if2 .left))
 
 -- the mark or nothing, then what names give
 parted : (c : tie.After-is-mark) (b : Bool) → c .is-mark .result ≡ b
-    → let p = c .before .before in let k = p .before .before .before in let w = k .before .before .args .w .now in
-    subfields-seen (split w)
-    ≡ marked b (p .same .result) (subfields-seen ([] ∷ split (drop (k .until .result + 1) w)))
+    → let p = c .before .before in let k = p .before .before .before in let a = k .before .before .args in
+    let n = k .until .result in
+    subfields-seen (a .at + before dot (a .w .now) + 1) (split (a .w .now))
+    ≡ marked b (p .same .result) (subfields-seen (a .at + n + 1) ([] ∷ split (drop (n + 1) (a .w .now))))
 parted c b e =
     let p = c .before .before in
     let k = p .before .before .before in
-    let w = k .before .before .args .w .now in
+    let a = k .before .before .args in
+    let w = a .w .now in
     let n = k .until .result in
     let m : is-mark (take n w) ≡ b =
     ap is-mark (sym (p .before .before .front .ensures)) ∙ sym (c .is-mark .ensures) ∙ e in
-    mark-more w n (k .until .ensures) (c .before .if1 .left)
-    ∙ (λ i. marked (m i) (p-is p i) (subfields-seen ([] ∷ split (drop (n + 1) w))))
+    let q : before dot w ≡ n = sym (k .until .ensures ∙ zero-add (before dot w)) in
+    ap (λ (i : ℕ). subfields-seen (a .at + i + 1) (split w)) q
+    ∙ mark-more (a .at + n + 1) w n (k .until .ensures) (c .before .if1 .left)
+    ∙ (λ i. marked (m i) (p-is p i) (subfields-seen (a .at + n + 1) ([] ∷ split (drop (n + 1) w))))
 
 returns-3 : tie.Need-returns-3
 returns-3 c = sym (parted (c .before) false (not-true _ (c .if3 .taken)))
 
+-- what stands behind the mark has its place
+room : (c : tie.After-behind)
+    → let k = c .before .before .before .before .before .before .before in
+    k .before .before .args .at + k .until .result + 1 + length (c .behind .result .now) < 2 ^ 64
+room c =
+    let i = c .before .before .before in
+    let k = i .before .before .before .before in
+    let a = k .before .before .args in
+    omega (
+      arith,
+      behind-dot (a .at) (a .w .now) _ (k .until .ensures) (i .if1 .left),
+      k .before .before .pre,
+      ap length (c .behind .ensures),
+    )
+
+add-names : tie.Need-add-names
+add-names c = omega (arith, room c)
+
+add-names-2 : tie.Need-add-names-2
+add-names-2 c = omega (arith, room c)
+
+names-requires : tie.Need-names-requires
+names-requires c κs = room c
+
 -- what names give behind the mark's dot
 behind-mark : (c : tie.After-names) → let p = c .before .before .before .before .before in
-    let k = p .before .before .before in let w = k .before .before .args .w .now in
-    subfields-seen (split w) ≡ marked true (p .same .result) (c .names .result)
+    let k = p .before .before .before in let a = k .before .before .args in
+    subfields-seen (a .at + before dot (a .w .now) + 1) (split (a .w .now)) ≡ marked true (p .same .result) (c .names .result)
 behind-mark c =
     let m = c .before .before .before in
     let p = m .before .before in
+    let k = p .before .before .before in
+    let at = k .before .before .args .at + k .until .result + 1 in
     parted m true (not-false _ (c .before .before .if3 .left))
-    ∙ ap (λ (t : Text). marked true (p .same .result) (subfields-seen ([] ∷ split t)))
+    ∙ ap (λ (t : Text). marked true (p .same .result) (subfields-seen at ([] ∷ split t)))
     (sym (c .before .behind .ensures))
     ∙ ap (marked true (p .same .result)) (sym (c .names .ensures))
 
@@ -87,7 +120,9 @@ mark-and-names-spec =
     (λ c κs. search needs)
     returns-3
     (λ c κs. search needs)
-    (λ c κs. search needs)
+    add-names
+    add-names-2
+    names-requires
     (λ c. search needs)
     (λ c. search needs)
     returns-4

@@ -6,7 +6,6 @@ use lib.ListN.{getD}
 use Rattle.csm.specs.Format.{value}
 use Rattle.csm.specs.Fields.{mcl}
 use Rattle.fields.specs.Seen.{class-seen}
-use Rattle.fields.specs.Steps.{alone}
 use Rattle.fields.specs.declared.Class.the-variants.{Nothing}
 use Rattle.fields.proofs.TableLaws.{classes, class-named, past-four, class-unknown}
 use borrow.Author.Needs.{needs}
@@ -15,7 +14,7 @@ use Rattle.fields.proofs.words.class.Tie as tie
 
 -- the class of each place
 known : (c : tie.After-place) (i : ℕ) → c .place .result ≡ i → i < 8
-    → getD classes i Nothing ≡ class-seen (alone (value mcl (c .before .before .before .args .w .now)))
+    → getD classes i Nothing ≡ class-seen (value mcl (c .before .before .before .args .w .now))
 known c i e h = sym (class-named (c .before .before .before .args .w .now) i (sym e ∙ c .place .ensures) h)
 
 returns : tie.Need-returns

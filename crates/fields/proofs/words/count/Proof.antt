@@ -8,11 +8,11 @@ use lib.ListN.{length}
 use borrow.Author.Tests.{eq-eqb, ne-eqb, not-true, not-false}
 use Rattle.octets.specs.Text.{all, within, run-char, is-run}
 use Rattle.octets.proofs.Comparing.{both as and-true}
-use Rattle.csm.specs.Fields.{numeral, count}
+use Rattle.csm.specs.Fields.{numeral}
 use Rattle.csm.proofs.TextLaws.{within-true}
 use Rattle.csm.proofs.NumberLaws.{no-zero}
 use Rattle.csm.proofs.WordTests.{count-value}
-use Rattle.fields.proofs.PieceLaws.{number-is, number-not}
+use Rattle.fields.specs.Seen.{number-seen}
 use Rattle.fields.proofs.DigitLaws.{digits-of, no-zero-first}
 use borrow.Author.Needs.{needs}
 use Rattle.fields.proofs.words.count.Statement.{statement}
@@ -23,7 +23,7 @@ returns c =
     let w = c .before .before .before .args .w .now in
     let no = sym (c .before .is-run .ensures) ∙ not-true _ (c .if1 .taken) in
     let e = count-value w ∙ ap (λ (b : Bool). cond (b && no-zero w) (some (numeral 10 0 w)) none) no in
-    sym (number-not count w e)
+    sym (ap number-seen e)
 
 -- they are digits
 run : (c : tie.Else1) → is-run 0 1 8 (c .before .before .before .args .w .now) ≡ true
@@ -45,7 +45,7 @@ returns-2 c =
     let z : no-zero w ≡ false =
     no-zero-first w (some-digit k) ∙ ap not (eq-eqb _ _ (c .if2 .taken)) in
     let e = count-value w ∙ (λ i. cond (run k i && z i) (some (numeral 10 0 w)) none) in
-    sym (number-not count w e)
+    sym (ap number-seen e)
 
 numeral-requires : tie.Need-numeral-requires
 numeral-requires c κs =
@@ -60,7 +60,7 @@ returns-3 c =
     no-zero-first w (some-digit k) ∙ ap not (ne-eqb _ _ (c .before .if2 .left)) in
     let e = count-value w ∙ (λ i. cond (run k i && z i) (some (numeral 10 0 w)) none)
     ∙ ap (λ (n : ℕ). some n) (sym (c .numeral .ensures)) in
-    sym (number-is count w _ e)
+    sym (ap number-seen e)
 
 pub count-spec : {M : Type 1} → statement M
 count-spec =

@@ -5,9 +5,9 @@ use mathlib.Core.Option.{none, some}
 use Prim.Native.Nat.{ℕ}
 use native.Mathlib.Omega.{arith}
 use borrow.Author.Tests.{not-true, not-false}
-use Rattle.csm.specs.Fields.{numeral, hex}
+use Rattle.csm.specs.Fields.{numeral}
 use Rattle.csm.proofs.WordTests.{hex-value}
-use Rattle.fields.proofs.PieceLaws.{number-is, number-not}
+use Rattle.fields.specs.Seen.{number-seen}
 use Rattle.fields.proofs.DigitLaws.{digits-of}
 use borrow.Author.Needs.{needs}
 use Rattle.fields.proofs.words.hex.Statement.{statement}
@@ -19,7 +19,7 @@ returns c =
     let d = c .before .before .before .args .digits in
     let no = sym (c .before .is-run .ensures) ∙ not-true _ (c .if1 .taken) in
     let e = hex-value d w ∙ ap (λ (b : Bool). cond b (some (numeral 16 0 w)) none) no in
-    sym (number-not (hex d) w e)
+    sym (ap number-seen e)
 
 numeral-requires : tie.Need-numeral-requires
 numeral-requires c κs =
@@ -35,7 +35,7 @@ returns-2 c =
     let yes = sym (k .before .is-run .ensures) ∙ not-false _ (k .if1 .left) in
     let e = hex-value d w ∙ ap (λ (b : Bool). cond b (some (numeral 16 0 w)) none) yes
     ∙ ap (λ (n : ℕ). some n) (sym (c .numeral .ensures)) in
-    sym (number-is (hex d) w _ e)
+    sym (ap number-seen e)
 
 pub hex-spec : {M : Type 1} → statement M
 hex-spec = tie.close (tie.spec (λ c κs. search needs) returns numeral-requires returns-2)

@@ -1,10 +1,10 @@
 -- `fields::words::letters` meets its contract: of k letters i were found, each a bit of the value. Assumes nothing.
-use mathlib.Core.Path.{refl, sym, subst}
+use mathlib.Core.Path.{refl, sym, ap, subst}
 use Prim.Native.Nat.{ℕ, _-_, _≤_}
 use native.Mathlib.Omega.{arith}
 use lib.ListN.{drop, getD}
-use Rattle.csm.specs.Fields.{error-letters, erf}
-use Rattle.fields.proofs.PieceLaws.{number-is, number-not}
+use Rattle.csm.specs.Fields.{error-letters}
+use Rattle.fields.specs.Seen.{number-seen}
 use Rattle.fields.proofs.LetterLaws.{Sought, sought-none, sought-more, here-small, Bit, bit}
 use Rattle.fields.proofs.LetterLaws.{erf-left, erf-empty, erf-found}
 use Rattle.fields.proofs.words.letters.Statement.{statement}
@@ -69,20 +69,20 @@ returns c =
     let l = c .before .before in
     let w = l .before .before .before .args .w .now in
     let left = erf-left w (l .loop .value) (l .loop .i) (l .loop .k) (l .loop .inv .1) (omega arith) in
-    sym (number-not erf w (left (omega arith)))
+    sym (ap number-seen (left (omega arith)))
 
 returns-2 : tie.Need-returns-2 Inv-loop μ-loop
 returns-2 c =
     let l = c .before .before .before in
     let w = l .before .before .before .args .w .now in
-    sym (number-not erf w (erf-empty w (omega arith)))
+    sym (ap number-seen (erf-empty w (omega arith)))
 
 returns-3 : tie.Need-returns-3 Inv-loop μ-loop
 returns-3 c =
     let l = c .before .before .before in
     let w = l .before .before .before .args .w .now in
     let found = erf-found w (l .loop .value) (l .loop .i) (l .loop .k) (l .loop .inv .1) (omega arith) in
-    sym (number-is erf w (l .loop .value) (found (omega arith) (omega arith)))
+    sym (ap number-seen (found (omega arith) (omega arith)))
 
 pub letters-spec : {M : Type 1} → statement M
 letters-spec =

@@ -5,9 +5,9 @@ use mathlib.Core.Option.{none, some}
 use Prim.Native.Nat.{ℕ}
 use lib.Dec.{ltb}
 use borrow.Author.Tests.{lt-ltb, le-ltb}
-use Rattle.csm.specs.Fields.{index, services, svr}
+use Rattle.csm.specs.Fields.{index, services}
 use Rattle.csm.proofs.WordTests.{one-of-value}
-use Rattle.fields.proofs.PieceLaws.{number-is, number-not}
+use Rattle.fields.specs.Seen.{number-seen}
 use borrow.Author.Needs.{needs}
 use Rattle.fields.proofs.words.service.Statement.{statement}
 use Rattle.fields.proofs.words.service.Tie as tie
@@ -19,7 +19,7 @@ returns c =
     let p : index services w ≡ k = sym (c .before .place .ensures) in
     let e = one-of-value services w ∙ ap (λ (i : ℕ). cond (ltb i 12) (some i) none) p
     ∙ ap (λ (b : Bool). cond b (some k) none) (lt-ltb k 12 (c .if1 .taken)) in
-    sym (number-is svr w k e)
+    sym (ap number-seen e)
 
 returns-2 : tie.Need-returns-2
 returns-2 c =
@@ -28,7 +28,7 @@ returns-2 c =
     let p : index services w ≡ k = sym (c .before .place .ensures) in
     let e = one-of-value services w ∙ ap (λ (i : ℕ). cond (ltb i 12) (some i) none) p
     ∙ ap (λ (b : Bool). cond b (some k) none) (le-ltb k 12 (c .if1 .left)) in
-    sym (number-not svr w e)
+    sym (ap number-seen e)
 
 pub service-spec : {M : Type 1} → statement M
 service-spec = tie.close (tie.spec (λ c. search needs) (λ c κs. search needs) returns returns-2)

@@ -4,7 +4,7 @@ use Prim.Native.Nat.{ℕ}
 use borrow.Author.Needs.{needs}
 use lib.ListN.{take}
 use Rattle.octets.specs.Text.{Text}
-use Rattle.partner.specs.Record.{entry-in}
+use Rattle.partner.specs.Record.{entry-in, entry-size}
 use Rattle.image.specs.Places.{entry-at}
 use Rattle.image.proofs.Steps.{past-end}
 use Rattle.image.proofs.records.entry_at.Statement.{statement}
@@ -20,7 +20,7 @@ returns-2 c =
     let im : Text = c .before .before .before .before .args .image .now in
     let at : ℕ = c .before .before .before .before .args .at in
     c .entry-in2 .ensures ∙ ap entry-in (c .before .part2 .ensures)
-    ∙ ap (λ (t : Text). entry-in (take 156 t)) (past-end im at (c .before .before .if1 .left))
+    ∙ ap (λ (t : Text). entry-in (take entry-size t)) (past-end im at (c .before .before .if1 .left))
 
 pub entry-at-spec : {M : Type 1} → statement M
 entry-at-spec =

@@ -1,26 +1,26 @@
 -- `image::records::load_at` meets its contract: refused outside the image and without room, else delivered.
 use mathlib.Core.Path.{_≡_}
-use Prim.Native.Nat.{ℕ, _-_}
+use Prim.Native.Nat.{ℕ}
 use borrow.Author.Needs.{needs, length-unmapped}
 use lib.ListN.{length}
-use Rattle.partner.specs.Record.{entry-bytes}
+use Rattle.partner.specs.Record.{entry-bytes, entry-size}
+use Rattle.partner.proofs.Storing.{names-size}
 use Rattle.image.proofs.Buffers.{added-outside, added-no-room, added-wrote}
-use Rattle.image.proofs.Entries.{names-size}
 use Rattle.image.proofs.records.load_at.Statement.{statement}
 use Rattle.image.proofs.records.load_at.Tie as tie
 
 -- the entry's record has 156 bytes, for each of its names has 16
-sized : (c : tie.Start) → length (entry-bytes (c .args .e)) ≡ 156
+sized : (c : tie.Start) → length (entry-bytes (c .args .e)) ≡ entry-size
 sized c =
     let e = c .args .e in
     let fields = c .good .1 .1 .0 .1 .1 in
-    let outgoing = fields .1 .1 .1 .1 .1 .1 .1 .1 .0 .1 .1 in
-    let incoming = fields .1 .1 .1 .1 .1 .1 .1 .1 .1 .0 .1 .1 in
-    names-size e (search needs) (search needs)
-    (length-unmapped ℕ (e .outgoing .first .name .bytes) 16 (outgoing .1 .0 .1 .1 .1 .0 .1 .1 .0 .1 .0 .1))
-    (length-unmapped ℕ (e .outgoing .second .name .bytes) 16 (outgoing .1 .1 .0 .1 .1 .1 .0 .1 .1 .0 .1 .0 .1))
-    (length-unmapped ℕ (e .incoming .first .name .bytes) 16 (incoming .1 .0 .1 .1 .1 .0 .1 .1 .0 .1 .0 .1))
-    (length-unmapped ℕ (e .incoming .second .name .bytes) 16 (incoming .1 .1 .0 .1 .1 .1 .0 .1 .1 .0 .1 .0 .1))
+    let outgoing = fields .1 .1 .0 .1 .1 .1 .1 .0 .1 .1 in
+    let incoming = fields .1 .1 .1 .0 .1 .1 .1 .0 .1 .1 in
+    names-size e (search needs) (length-unmapped ℕ (e .top .name .bytes) 16 (fields .1 .0 .1 .1 .0 .1 .1 .0 .1 .0 .1))
+    (length-unmapped ℕ (e .sending .outgoing .first .name .bytes) 16 (outgoing .1 .0 .1 .1 .1 .0 .1 .1 .0 .1 .0 .1))
+    (length-unmapped ℕ (e .sending .outgoing .second .name .bytes) 16 (outgoing .1 .1 .0 .1 .1 .1 .0 .1 .1 .0 .1 .0 .1))
+    (length-unmapped ℕ (e .receiving .incoming .first .name .bytes) 16 (incoming .1 .0 .1 .1 .1 .0 .1 .1 .0 .1 .0 .1))
+    (length-unmapped ℕ (e .receiving .incoming .second .name .bytes) 16 (incoming .1 .1 .0 .1 .1 .1 .0 .1 .1 .0 .1 .0 .1))
 
 returns : tie.Need-returns
 returns c =

@@ -1,5 +1,5 @@
 -- `messages::whole::put_counts` meets its contract: neither count, or CTP and then CTR. Assumes nothing.
-use Rattle.writer.proofs.Laying.{laid-rest, laid-as, laid-nothing}
+use Rattle.octets.proofs.Writing.{wrote-rest, wrote-as, wrote-nothing}
 use Rattle.messages.proofs.Texts.{no-counts, both-counts}
 use Rattle.messages.proofs.Judging.{counts-below}
 use borrow.Author.Needs.{needs}
@@ -7,7 +7,7 @@ use Rattle.messages.proofs.whole.put_counts.Statement.{statement}
 use Rattle.messages.proofs.whole.put_counts.Tie as tie
 
 returns : tie.Need-returns
-returns c = laid-as (no-counts (c .enum-told .given .1)) (laid-nothing (c .before .before .before .args .rest .now))
+returns c = wrote-as (no-counts (c .enum-told .given .1)) (wrote-nothing (c .before .before .before .args .rest .now))
 
 returns-2 : tie.Need-returns-2
 returns-2 c =
@@ -15,8 +15,8 @@ returns-2 c =
     let v = w .before .before .before .before .before in
     let k = v .before .before .before .before .counts .given in
     let b = counts-below (k .0 .0) (k .0 .1 .0) (k .1) (v .before .before .before .before .before .before .before .pre) in
-    laid-as (both-counts (k .0 .0) (k .0 .1 .0) (k .1) (b .0) (b .1))
-    (laid-rest (v .put-count .ensures) (w .put-count2 .ensures))
+    wrote-as (both-counts (k .0 .0) (k .0 .1 .0) (k .1) (b .0) (b .1))
+    (wrote-rest (v .put-count .ensures) (w .put-count2 .ensures))
 
 pub put-counts-spec : {M : Type 1} → statement M
 put-counts-spec =

@@ -1,5 +1,5 @@
 -- `messages::whole::put_covered` meets its contract: head, keys and the fields behind them. Assumes nothing.
-use Rattle.writer.proofs.Laying.{laid-rest, laid-as}
+use Rattle.octets.proofs.Writing.{wrote-rest, wrote-as}
 use Rattle.messages.proofs.Texts.{ksm-text}
 use borrow.Author.Needs.{needs}
 use Rattle.messages.proofs.whole.put_covered.Statement.{statement}
@@ -10,10 +10,9 @@ returns c =
     let w = c .before .before in
     let v = w .before .before .before .before in
     let u = v .before .before .before .before in
-    let a = u .before .before .before .before .before .before .before .before .before .before .before .args in
-    let e = ksm-text (a .rcv .now) (a .org .now) (a .keys) (a .idk1 .now) (a .idk2 .now) (a .second-idk1 .now)
-    (a .second-idk2 .now) (a .vector) (a .edk .now) (a .ctp) in
-    laid-as e (laid-rest (laid-rest (u .put-head .ensures) (v .put-keys .ensures)) (w .put-tail .ensures))
+    let a = u .before .before .before .before .before .before .args in
+    wrote-as (ksm-text (a .rcv .now) (a .org .now) (a .ksm))
+    (wrote-rest (wrote-rest (u .put-head .ensures) (v .put-keys .ensures)) (w .put-tail .ensures))
 
 pub put-covered-spec : {M : Type 1} → statement M
 put-covered-spec =

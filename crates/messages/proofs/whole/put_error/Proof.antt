@@ -1,5 +1,5 @@
 -- `messages::whole::put_error` meets its contract: the counts, then ERF. Assumes nothing.
-use Rattle.writer.proofs.Laying.{laid-rest}
+use Rattle.octets.proofs.Writing.{wrote-rest}
 use borrow.Author.Needs.{needs}
 use Rattle.messages.proofs.whole.put_error.Statement.{statement}
 use Rattle.messages.proofs.whole.put_error.Tie as tie
@@ -7,7 +7,7 @@ use Rattle.messages.proofs.whole.put_error.Tie as tie
 returns : tie.Need-returns
 returns c =
     let w = c .before .before in
-    laid-rest (w .before .before .before .before .put-counts .ensures) (w .put-erf .ensures)
+    wrote-rest (w .before .before .before .before .put-counts .ensures) (w .put-erf .ensures)
 
 pub put-error-spec : {M : Type 1} → statement M
 put-error-spec =

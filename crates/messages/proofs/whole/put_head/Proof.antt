@@ -1,7 +1,7 @@
 -- `messages::whole::put_head` meets its contract: the start, RCV and ORG, one after the other. Assumes nothing.
 use mathlib.Core.List.{append-assoc}
 use Rattle.csm.specs.Fields.{field, RCV, ORG}
-use Rattle.writer.proofs.Laying.{laid-rest, laid-as}
+use Rattle.octets.proofs.Writing.{wrote-rest, wrote-as}
 use borrow.Author.Needs.{needs}
 use Rattle.messages.proofs.whole.put_head.Statement.{statement}
 use Rattle.messages.proofs.whole.put_head.Tie as tie
@@ -12,8 +12,8 @@ returns c =
     let v = w .before .before .before .before .before in
     let u = v .before .before .before .before .before in
     let a = u .before .before .before .before .before .before .args in
-    laid-as (append-assoc (a .start .now) (field RCV .print (a .rcv .now)) (field ORG .print (a .org .now)))
-    (laid-rest (laid-rest (u .put-text .ensures) (v .put-field .ensures)) (w .put-field2 .ensures))
+    wrote-as (append-assoc (a .start .now) (field RCV .print (a .rcv .now)) (field ORG .print (a .org .now)))
+    (wrote-rest (wrote-rest (u .put-text .ensures) (v .put-field .ensures)) (w .put-field2 .ensures))
 
 pub put-head-spec : {M : Type 1} → statement M
 put-head-spec =

@@ -1,8 +1,8 @@
 -- `messages::whole::put_rsm` meets its contract: the head, sealed. Assumes nothing.
-use Rattle.writer.proofs.Laying.{laid-as}
+use Rattle.octets.proofs.Writing.{wrote-as}
 use Rattle.messages.specs.Readings.{rsm-reading}
 use Rattle.messages.proofs.Texts.{rsm-text, rsm-sealable}
-use Rattle.messages.proofs.Sealing.{seal-ready, laid-sealed}
+use Rattle.messages.proofs.Sealing.{seal-ready, wrote-sealed}
 use borrow.Author.Needs.{needs}
 use Rattle.messages.proofs.whole.put_rsm.Statement.{statement}
 use Rattle.messages.proofs.whole.put_rsm.Tie as tie
@@ -14,7 +14,7 @@ seal-requires c κs =
     let s = v .before .before .before .before .before .before in
     let a = s .args in
     seal-ready (rsm-sealable (a .rcv .now) (a .org .now)) (a .mac-key)
-    (laid-as (rsm-text (a .rcv .now) (a .org .now)) (v .put-head .ensures)) (s .pre)
+    (wrote-as (rsm-text (a .rcv .now) (a .org .now)) (v .put-head .ensures)) (s .pre)
 
 returns : tie.Need-returns
 unfolding rsm-reading
@@ -23,8 +23,8 @@ returns c =
     let v = w .before .before .before .before in
     let s = v .before .before .before .before .before .before in
     let a = s .args in
-    laid-sealed (rsm-sealable (a .rcv .now) (a .org .now)) (a .mac-key)
-    (laid-as (rsm-text (a .rcv .now) (a .org .now)) (v .put-head .ensures)) (s .pre) (w .seal .ensures)
+    wrote-sealed (rsm-sealable (a .rcv .now) (a .org .now)) (a .mac-key)
+    (wrote-as (rsm-text (a .rcv .now) (a .org .now)) (v .put-head .ensures)) (s .pre) (w .seal .ensures)
 
 pub put-rsm-spec : {M : Type 1} → statement M
 put-rsm-spec =

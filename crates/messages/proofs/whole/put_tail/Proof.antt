@@ -1,5 +1,5 @@
 -- `messages::whole::put_tail` meets its contract: IV, EDK and CTP, one after the other. Assumes nothing.
-use Rattle.writer.proofs.Laying.{laid-rest, laid-as}
+use Rattle.octets.proofs.Writing.{wrote-rest, wrote-as}
 use Rattle.messages.proofs.Texts.{tail-parts}
 use borrow.Author.Needs.{needs}
 use Rattle.messages.proofs.whole.put_tail.Statement.{statement}
@@ -9,17 +9,17 @@ returns : tie.Need-returns
 returns c =
     let w = c .before .before in
     let v = w .before .before .before .before .before in
-    let u = v .before .before .before .before in
+    let u = v .before .before .before .before .before in
     let s = u .before .before .before .before in
-    let a = s .args in
-    laid-as (tail-parts (a .vector) (a .edk .now) (a .ctp) (s .pre))
-    (laid-rest (laid-rest (u .put-iv .ensures) (v .put-edk .ensures)) (w .put-count .ensures))
+    wrote-as (tail-parts (s .args .ksm) (s .pre))
+    (wrote-rest (wrote-rest (u .put-iv .ensures) (v .put-edk .ensures)) (w .put-count .ensures))
 
 pub put-tail-spec : {M : Type 1} → statement M
 put-tail-spec =
     tie.close
     (tie.spec
     (λ c κs. search needs)
+    (λ c. search needs)
     (λ c. search needs)
     (λ c. search needs)
     (λ c. search needs)

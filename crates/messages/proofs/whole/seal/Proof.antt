@@ -6,7 +6,7 @@ use native.Mathlib.Omega.{arith}
 use lib.ListN.{take}
 use Rattle.octets.specs.Text.{ascii}
 use Rattle.csm.specs.Fields.{field, MAC}
-use Rattle.writer.proofs.Laying.{laid-rest, laid-as, laid-front}
+use Rattle.octets.proofs.Writing.{wrote-rest, wrote-as, wrote-front}
 use Rattle.messages.specs.Parts.{sealed-front}
 use borrow.Author.Needs.{needs}
 use Rattle.messages.proofs.whole.seal.Statement.{statement}
@@ -23,8 +23,8 @@ returns c =
     let e : (take (a .n) l ++ field MAC .print (u .mac .result)) ++ ascii ")" ≡ sealed-front (a .n) (a .mac-key) l =
     append-assoc (take (a .n) l) (field MAC .print (u .mac .result)) (ascii ")")
     ∙ ap (λ (m : ℕ). take (a .n) l ++ (field MAC .print m ++ ascii ")")) (u .mac .ensures) in
-    laid-as e
-    (laid-rest (laid-rest (laid-front (a .n) l (omega arith)) (v .put-mac .ensures)) (w .put-text .ensures))
+    wrote-as e
+    (wrote-rest (wrote-rest (wrote-front (a .n) l (omega arith)) (v .put-mac .ensures)) (w .put-text .ensures))
 
 pub seal-spec : {M : Type 1} → statement M
 seal-spec =

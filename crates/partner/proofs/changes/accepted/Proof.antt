@@ -1,4 +1,4 @@
--- The receiving side anew, the count risen.
+-- Field by field, the count risen.
 use borrow.Author.Needs.{needs}
 use Rattle.partner.specs.Changes.{accepted}
 use Rattle.partner.proofs.changes.accepted.Statement.{statement}
@@ -9,4 +9,4 @@ unfolding accepted
 returns c = cc
 
 pub accepted-spec : {M : Type 1} → statement M
-accepted-spec = tie.close (tie.spec (λ c κs. search needs) (λ c κs. search needs) returns)
+accepted-spec = tie.close (tie.spec (λ c κs. search needs) returns)

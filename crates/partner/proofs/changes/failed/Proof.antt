@@ -1,4 +1,4 @@
--- The sending side anew, in phase 3 without keys, the count the larger.
+-- Field by field, the count the larger.
 use borrow.Author.Needs.{needs}
 use Rattle.partner.specs.Changes.{failed}
 use Rattle.partner.proofs.changes.failed.Statement.{statement}
@@ -9,4 +9,4 @@ unfolding failed
 returns c = cc
 
 pub failed-spec : {M : Type 1} → statement M
-failed-spec = tie.close (tie.spec (λ c κs. search needs) (λ c κs. search needs) (λ c κs. search needs) returns)
+failed-spec = tie.close (tie.spec (λ c κs. search needs) (λ c κs. search needs) returns)

@@ -1,4 +1,4 @@
--- The sending side anew, in phase 3 without keys.
+-- Field by field.
 use borrow.Author.Needs.{needs}
 use Rattle.partner.specs.Changes.{given-up}
 use Rattle.partner.proofs.changes.given_up.Statement.{statement}
@@ -9,4 +9,4 @@ unfolding given-up
 returns c = cc
 
 pub given-up-spec : {M : Type 1} → statement M
-given-up-spec = tie.close (tie.spec (λ c κs. search needs) (λ c κs. search needs) returns)
+given-up-spec = tie.close (tie.spec (λ c κs. search needs) returns)

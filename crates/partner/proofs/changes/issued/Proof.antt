@@ -1,4 +1,4 @@
--- The sending side anew, the count risen.
+-- Field by field, the count risen.
 use borrow.Author.Needs.{needs}
 use Rattle.partner.specs.Changes.{issued}
 use Rattle.partner.proofs.changes.issued.Statement.{statement}
@@ -9,4 +9,4 @@ unfolding issued
 returns c = cc
 
 pub issued-spec : {M : Type 1} → statement M
-issued-spec = tie.close (tie.spec (λ c κs. search needs) (λ c κs. search needs) returns)
+issued-spec = tie.close (tie.spec (λ c κs. search needs) returns)

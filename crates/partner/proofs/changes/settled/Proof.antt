@@ -1,12 +1,12 @@
--- The sending side anew, in phase 2.
-use borrow.Author.Needs.{needs}
+-- Field by field.
+use mathlib.Core.Path.{refl}
 use Rattle.partner.specs.Changes.{settled}
 use Rattle.partner.proofs.changes.settled.Statement.{statement}
 use Rattle.partner.proofs.changes.settled.Tie as tie
 
 returns : tie.Need-returns
 unfolding settled
-returns c = cc
+returns c = refl
 
 pub settled-spec : {M : Type 1} → statement M
-settled-spec = tie.close (tie.spec (λ c κs. search needs) returns)
+settled-spec = tie.close (tie.spec returns)

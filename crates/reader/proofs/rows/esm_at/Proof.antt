@@ -1,54 +1,42 @@
 -- `reader::rows::esm_at` meets its contract: the row, then the counts exactly with P. Assumes nothing.
-use mathlib.Core.Path.{sym, _∙_}
-use mathlib.Core.Bool.{true, false}
-use Rattle.csm.specs.Fields.{CTP, CTR, tag, field}
-use Rattle.reader.proofs.SeenLaws.{Count-taken, count-taken}
-use Rattle.reader.proofs.StageLaws.{esm-step, esm-decided}
+use mathlib.Core.Path.{_≡_, sym, ap, _∙_}
+use mathlib.Core.Bool.{Bool, true, false, cond, _&&_}
+use lib.ListN.{drop}
+use Rattle.reader.specs.Stages.{esm-body}
+use Rattle.reader.specs.declared.Message.the-variants as message
+use Rattle.reader.proofs.StageLaws.{esm-join, esm-step}
 use borrow.Author.Needs.{needs}
 use Rattle.reader.proofs.rows.esm_at.Statement.{statement}
 use Rattle.reader.proofs.rows.esm_at.Tie as tie
 
--- CTP and CTR, each or none
-ctp : (e : tie.After-errors-at)
-    → let a = e .before .before .before .before .before .before .args in
-    Count-taken (field CTP) (a .text .now) (a .at) (e .before .before .before .count-at .result)
-ctp e =
-    let a = e .before .before .before .before .before .before .args in
-    count-taken (tag CTP) (a .text .now) (a .at) (e .before .before .before .count-at .ensures)
-
-ctr : (e : tie.After-errors-at)
-    → let a = e .before .before .before .before .before .before .args in
-    Count-taken (field CTR)
-    (a .text .now) (e .before .before .before .count-at .result .next) (e .before .count-at2 .result)
-ctr e =
-    let a = e .before .before .before .before .before .before .args in
-    count-taken (tag CTR) (a .text .now) (e .before .before .before .count-at .result .next)
-    (e .before .count-at2 .ensures)
+-- what is read, by whether all of it is there
+whole : (k : tie.After-both2) (b : Bool) → k .both2 .result ≡ b → let a = k .before .before .before .before .before .before .before .before .before .before .before .before .before .before .before .before .args in
+    esm-body (a .head) (a .at) (drop (a .at) (a .text .now))
+    ≡ cond b (esm-join (a .head) (a .text .now) (k .before .before .before .before .before .before .before .before .before .before .before .before .before .count-field .result)
+    (k .before .before .before .before .before .before .before .before .before .before .count-field2 .result) (k .before .before .before .before .before .before .before .before .letters-field .result) (k .before .before .before .before .before .check-field .result))
+    message.Nothing
+whole k b e =
+    let a = k .before .before .before .before .before .before .before .before .before .before .before .before .before .before .before .before .args in
+    let l = k .before .before .before .before .before .before .before .before .letters-field in
+    let ended = k .before .both .ensures ∙ ap (λ (z : Bool). l .result .place .there && z) (k .before .before .closing .ensures) in
+    let counted = k .before .before .before .counts-with-p .ensures in
+    esm-step (a .head) (a .text .now) (a .at) (k .before .before .before .before .before .before .before .before .before .before .before .before .before .count-field .ensures)
+    (k .before .before .before .before .before .before .before .before .before .before .count-field2 .ensures) (l .ensures) (k .before .before .before .before .before .check-field .ensures) b
+    (sym (k .both2 .ensures ∙ (λ i. ended i && counted i)) ∙ e)
 
 returns : tie.Need-returns
 returns c =
-    let e = c .before .before in
-    let a = e .before .before .before .before .before .before .args in
-    sym (esm-step (a .head) (a .text .now) (a .at) (ctp e) (ctr e) _ (sym (e .errors-at .ensures)
-    ∙ c .enum-told .given .1))
+    let h = c .before .before .before .before .before .before .before .before .before .before .before .before .before .before .before .before .before .before .before .before .before .args .head in
+    (λ i. message.Esm (record {
+      head = h;
+      ctp = c .before .before .before .optional .ensures i;
+      ctr = c .before .before .optional2 .ensures i;
+      erf = c .before .numeral-of .ensures i;
+      edc = c .optional3 .ensures i;
+    })) ∙ sym (whole (c .before .before .before .before .before) true (c .before .before .before .before .if1 .taken))
 
 returns-2 : tie.Need-returns-2
-returns-2 c =
-    let k = c .before .before .before .before in
-    let e = k .before .before .before in
-    let a = e .before .before .before .before .before .before .args in
-    sym (esm-decided (a .head) (a .text .now) (a .at) (ctp e) (ctr e) _ _
-    (sym (e .errors-at .ensures) ∙ k .before .erf .given .1) true (sym (c .before .counts-with-p .ensures)
-    ∙ c .if1 .taken))
-
-returns-3 : tie.Need-returns-3
-returns-3 c =
-    let k = c .before .before .before .before in
-    let e = k .before .before .before in
-    let a = e .before .before .before .before .before .before .args in
-    sym (esm-decided (a .head) (a .text .now) (a .at) (ctp e) (ctr e) _ _
-    (sym (e .errors-at .ensures) ∙ k .before .erf .given .1) false (sym (c .before .counts-with-p .ensures)
-    ∙ c .if1 .left))
+returns-2 c = sym (whole (c .before) false (c .if1 .left))
 
 pub esm-at-spec : {M : Type 1} → statement M
 esm-at-spec =
@@ -60,8 +48,14 @@ esm-at-spec =
     (λ c κs. search needs)
     (λ c κs. search needs)
     (λ c. search needs)
-    (λ c. search needs)
-    returns
     (λ c κs. search needs)
-    returns-2
-    returns-3)
+    (λ c κs. search needs)
+    (λ c κs. search needs)
+    (λ c κs. search needs)
+    (λ c κs. search needs)
+    (λ c κs. search needs)
+    (λ c κs. search needs)
+    (λ c κs. search needs)
+    (λ c κs. search needs)
+    returns
+    returns-2)

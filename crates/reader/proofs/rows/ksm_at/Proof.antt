@@ -1,74 +1,71 @@
--- `reader::rows::ksm_at` meets its contract: a KD, a second KD or none, then IV to MAC and the end. Assumes nothing.
-use mathlib.Core.Path.{sym, _∙_}
-use Prim.Native.Nat.{_+_}
-use native.Mathlib.Omega.{arith}
+-- `reader::rows::ksm_at` meets its contract: KDs, IV, EDK, CTP and MAC, then the end. Assumes nothing.
+use mathlib.Core.Path.{_≡_, sym, ap, _∙_}
+use mathlib.Core.Bool.{Bool, true, false, cond, _&&_}
 use lib.ListN.{drop}
-use Rattle.csm.specs.Fields.{KD, field}
-use Rattle.fields.proofs.Within.{Key-next, key-none, key-next}
-use Rattle.reader.proofs.SeenLaws.{Key-taken, key-taken}
-use Rattle.reader.proofs.StageLaws.{ksm-stop, ksm-step}
+use Rattle.reader.specs.Stages.{ksm-body}
+use Rattle.reader.specs.declared.Message.the-variants as message
+use Rattle.reader.proofs.StageLaws.{ksm-join, ksm-step}
 use borrow.Author.Needs.{needs}
 use Rattle.reader.proofs.rows.ksm_at.Statement.{statement}
 use Rattle.reader.proofs.rows.ksm_at.Tie as tie
 
--- the first KD, read
-first : (k : tie.After-known-told)
-    → let a = k .before .before .before .before .before .args in
-    let v = k .before .kd .given .0 in
-    Key-next (a .text .now) (a .at) (v .0) (v .1 .0) (a .at + v .1 .0 + 4)
-first k =
-    let a = k .before .before .before .before .before .args in
-    let v = k .before .kd .given .0 in
-    key-next (a .text .now) (a .at) (v .0) (v .1 .0) _
-    (sym (k .before .before .before .key-field .ensures) ∙ k .before .kd .given .1) (omega arith)
-
--- the second KD, or none
-second : (e : tie.After-key-at)
-    → let a = e .before .before .before .before .before .before .args in
-    Key-taken (a .text .now) (a .at + e .before .before .kd .given .0 .1 .0 + 4) (e .key-at .result)
-second e =
-    let a = e .before .before .before .before .before .before .args in
-    key-taken (a .text .now) (a .at + e .before .before .kd .given .0 .1 .0 + 4) (e .key-at .ensures)
+-- what is read, by whether all of it is there
+whole : (k : tie.After-both3) (b : Bool) → k .both3 .result ≡ b → let a = k .before .before .before .before .before .before .before .before .before .before .before .before .before .before .before .before .before .before .before .args in
+    ksm-body (a .head) (a .at) (drop (a .at) (a .text .now))
+    ≡ cond b (ksm-join (a .head) (a .text .now) (k .before .before .before .before .before .before .before .before .before .before .before .before .before .before .before .before .before .key-field .result)
+    (k .before .before .before .before .before .before .before .before .before .before .before .before .before .before .before .key-field2 .result) (k .before .before .before .before .before .before .before .before .before .before .before .before .run-field .result)
+    (k .before .before .before .before .before .before .before .before .before .before .run-field2 .result) (k .before .before .before .before .before .before .before .before .count-field .result)
+    (k .before .before .before .before .before .check-field .result))
+    message.Nothing
+whole k b e =
+    let a = k .before .before .before .before .before .before .before .before .before .before .before .before .before .before .before .before .before .before .before .args in
+    let c = k .before .before .before .before .before .before .before .before in
+    let kd = k .before .before .before .before .before .before .before .before .before .before .before .before .before .before .before .before .before .key-field in
+    let ctp = c .count-field in
+    let mac = k .before .before .before .before .before .check-field in
+    let ended = k .before .before .both .ensures ∙ ap (λ (z : Bool). mac .result .place .there && z) (k .before .before .before .closing .ensures) in
+    let sealed = k .before .both2 .ensures ∙ ap (λ (z : Bool). ctp .result .place .there && z) ended in
+    ksm-step (a .head) (a .text .now) (a .at) (kd .ensures) (c .before .before .before .before .before .before .before .key-field2 .ensures)
+    (c .before .before .before .before .run-field .ensures) (c .before .before .run-field2 .ensures) (ctp .ensures) (mac .ensures) b
+    (sym (k .both3 .ensures ∙ ap (λ (z : Bool). kd .result .place .there && z) sealed) ∙ e)
 
 returns : tie.Need-returns
 returns c =
-    let a = c .before .before .before .before .args in
-    let no = key-none (field KD .read (drop (a .at) (a .text .now)))
-    (sym (c .before .before .key-field .ensures) ∙ c .enum-told .given .1) in
-    sym (ksm-stop (a .head) (a .text .now) (a .at) no)
-
-add-key-at : tie.Need-add-key-at
-add-key-at c = omega (arith, first c .reads .within)
-
-add-key-at-2 : tie.Need-add-key-at-2
-add-key-at-2 c = omega (arith, first c .reads .within)
+    let f = c .before .before .before .before .before .before .before in
+    let j = f .before .before .before .before .before .before .before .before .before .before .before .before .before .before .before .key-field2 .result in
+    (λ i. message.Ksm (record {
+      head = f .before .before .before .before .before .before .before .before .before .before .before .before .before .before .before .before .before .before .before .args .head;
+      first = f .before .before .before .before .before .before .before .before .before .before .before .before .before .before .before .before .before .key-field .result .kd;
+      two = j .place .there;
+      second = j .kd;
+      iv = f .before .before .before .before .before .before .before .before .before .before .before .before .run-field .result .span;
+      edk = f .before .before .before .before .before .before .before .before .before .before .run-field2 .result .span;
+      ctp = c .before .numeral-of .ensures i;
+      mac = c .numeral-of2 .ensures i;
+    })) ∙ sym (whole f true (c .before .before .before .before .before .before .if1 .taken))
 
 returns-2 : tie.Need-returns-2
-returns-2 c =
-    let e = c .before .before in
-    sym (ksm-step _ _ _ (first (e .before .before)) (second (e .before)) _
-    (sym (e .tail-at .ensures) ∙ c .enum-told2 .given .1))
-
-returns-3 : tie.Need-returns-3
-returns-3 c =
-    let k = c .before in
-    let e = k .before .before .before in
-    sym (ksm-step _ _ _ (first (e .before .before)) (second (e .before)) _ (sym (e .tail-at .ensures)
-    ∙ k .before .iv .given .1))
+returns-2 c = sym (whole (c .before) false (c .if1 .left))
 
 pub ksm-at-spec : {M : Type 1} → statement M
 ksm-at-spec =
     tie.close
     (tie.spec
     (λ c κs. search needs)
+    (λ c κs. search needs)
     (λ c. search needs)
+    (λ c κs. search needs)
     (λ c. search needs)
+    (λ c κs. search needs)
+    (λ c. search needs)
+    (λ c κs. search needs)
+    (λ c. search needs)
+    (λ c κs. search needs)
+    (λ c κs. search needs)
+    (λ c κs. search needs)
+    (λ c κs. search needs)
+    (λ c κs. search needs)
+    (λ c κs. search needs)
+    (λ c κs. search needs)
     returns
-    add-key-at
-    add-key-at-2
-    (λ c κs. search needs)
-    (λ c κs. search needs)
-    (λ c. search needs)
-    (λ c. search needs)
-    returns-2
-    returns-3)
+    returns-2)

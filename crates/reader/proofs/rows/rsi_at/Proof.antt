@@ -1,58 +1,36 @@
 -- `reader::rows::rsi_at` meets its contract: SVR, then an optional EDC to the end. Assumes nothing.
-use mathlib.Core.Path.{_≡_, sym, _∙_}
-use Prim.Native.Nat.{_+_}
-use native.Mathlib.Omega.{arith}
-use lib.ListN.{length, drop}
-use Rattle.csm.specs.Fields.{SVR, tag, field, svr}
-use Rattle.fields.proofs.Within.{Next, number-none, number-next}
-use Rattle.reader.proofs.SeenLaws.{number-size}
-use Rattle.reader.proofs.StageLaws.{rsi-stop, rsi-step}
+use mathlib.Core.Path.{_≡_, sym, ap, _∙_}
+use mathlib.Core.Bool.{Bool, true, false, cond, _&&_}
+use lib.ListN.{drop}
+use Rattle.reader.specs.Stages.{rsi-body}
+use Rattle.reader.specs.declared.Optional.{Optional}
+use Rattle.reader.specs.declared.Message.the-variants as message
+use Rattle.reader.proofs.StageLaws.{rsi-join, rsi-step}
 use borrow.Author.Needs.{needs}
 use Rattle.reader.proofs.rows.rsi_at.Statement.{statement}
 use Rattle.reader.proofs.rows.rsi_at.Tie as tie
 
--- SVR, read
-service : (k : tie.After-known-told)
-    → let a = k .before .before .before .before .before .args in
-    let v = k .before .value .given .0 in
-    Next (field SVR) (a .text .now) (a .at) (v .0) (a .at + v .1 .0 + 5)
-service k =
-    let a = k .before .before .before .before .before .args in
-    let v = k .before .value .given .0 in
-    number-next svr (tag SVR) (a .text .now) (a .at) (v .0) (v .1 .0) _
-    (sym (k .before .before .before .service-field .ensures) ∙ k .before .value .given .1) (omega arith)
-
-size : (k : tie.After-known-told) → let v = k .before .value .given .0 in length (svr .text (v .0)) ≡ v .1 .0
-size k =
-    let a = k .before .before .before .before .before .args in
-    let v = k .before .value .given .0 in
-    number-size svr (field SVR .read (drop (a .at) (a .text .now))) (v .0) (v .1 .0)
-    (sym (k .before .before .before .service-field .ensures) ∙ k .before .value .given .1)
+-- what is read, by whether all of it is there
+whole : (k : tie.After-both) (b : Bool) → k .both .result ≡ b → let a = k .before .before .before .before .before .before .before .before .before .args in
+    rsi-body (a .head) (a .at) (drop (a .at) (a .text .now))
+    ≡ cond b (rsi-join (a .head) (a .text .now) (k .before .before .before .before .before .before .before .service-field .result) (k .before .before .before .before .check-field .result))
+    message.Nothing
+whole k b e =
+    let a = k .before .before .before .before .before .before .before .before .before .args in
+    let v = k .before .before .before .before .before .before .before .service-field in
+    rsi-step (a .head) (a .text .now) (a .at) (v .ensures) (k .before .before .before .before .check-field .ensures) b
+    (sym (k .both .ensures ∙ ap (λ (z : Bool). v .result .place .there && z) (k .before .closing .ensures)) ∙ e)
 
 returns : tie.Need-returns
 returns c =
-    let a = c .before .before .before .before .args in
-    let no = number-none svr (field SVR .read (drop (a .at) (a .text .now)))
-    (sym (c .before .before .service-field .ensures) ∙ c .enum-told .given .1) in
-    sym (rsi-stop (a .head) (a .text .now) (a .at) no)
-
-add-ending-at : tie.Need-add-ending-at
-add-ending-at c = omega (arith, service c .within)
-
-add-ending-at-2 : tie.Need-add-ending-at-2
-add-ending-at-2 c = omega (arith, service c .within)
+    let h = c .before .before .before .before .before .before .before .before .before .before .before .args .head in
+    let v = c .before .before .before .before .before .before .before .before .before .service-field .result in
+    ap (λ (o : Optional). message.Rsi (record { head = h; service = v .value; svr = v .place .span; edc = o }))
+    (c .before .before .before .before .before .optional .ensures)
+    ∙ sym (whole (c .before .before) true (c .before .if1 .taken))
 
 returns-2 : tie.Need-returns-2
-returns-2 c =
-    let e = c .before .before in
-    sym (rsi-step _ _ _ _ _ _ (size (e .before)) (service (e .before)) _ (sym (e .ending-at .ensures)
-    ∙ c .enum-told2 .given .1))
-
-returns-3 : tie.Need-returns-3
-returns-3 c =
-    let e = c .before .before .before in
-    sym (rsi-step _ _ _ _ _ _ (size (e .before)) (service (e .before)) _ (sym (e .ending-at .ensures)
-    ∙ c .before .edc .given .1))
+returns-2 c = sym (whole (c .before) false (c .if1 .left))
 
 pub rsi-at-spec : {M : Type 1} → statement M
 rsi-at-spec =
@@ -60,12 +38,9 @@ rsi-at-spec =
     (tie.spec
     (λ c κs. search needs)
     (λ c. search needs)
-    (λ c. search needs)
-    returns
-    add-ending-at
-    add-ending-at-2
     (λ c κs. search needs)
-    (λ c. search needs)
-    (λ c. search needs)
-    returns-2
-    returns-3)
+    (λ c κs. search needs)
+    (λ c κs. search needs)
+    (λ c κs. search needs)
+    returns
+    returns-2)

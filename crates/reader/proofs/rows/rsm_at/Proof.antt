@@ -1,47 +1,33 @@
 -- `reader::rows::rsm_at` meets its contract: MAC, then the end. Assumes nothing.
-use mathlib.Core.Path.{sym, _∙_}
-use mathlib.Core.Bool.{true, false}
-use Prim.Native.Nat.{_+_}
-use native.Mathlib.Omega.{arith}
+use mathlib.Core.Path.{_≡_, sym, ap, _∙_}
+use mathlib.Core.Bool.{Bool, true, false, cond, _&&_}
 use lib.ListN.{drop}
-use Rattle.csm.specs.Fields.{MAC, tag, field}
-use Rattle.fields.proofs.Within.{Next, check-none, check-next}
-use Rattle.reader.proofs.StageLaws.{rsm-stop, rsm-step}
+use Rattle.reader.specs.Stages.{numeral-of, rsm-body}
+use Rattle.reader.specs.declared.Numeral.{Numeral}
+use Rattle.reader.specs.declared.Message.the-variants as message
+use Rattle.reader.proofs.StageLaws.{rsm-step}
 use borrow.Author.Needs.{needs}
 use Rattle.reader.proofs.rows.rsm_at.Statement.{statement}
 use Rattle.reader.proofs.rows.rsm_at.Tie as tie
 
--- MAC, read
-mac : (k : tie.After-known-told)
-    → let a = k .before .before .before .before .before .before .args in
-    let v = k .before .value .given .0 in
-    Next (field MAC) (a .text .now) (a .at) (v .0) (a .at + v .1 .0 + 5)
-mac k =
+-- what is read, by whether all of it is there
+whole : (k : tie.After-both) (b : Bool) → k .both .result ≡ b → let a = k .before .before .before .before .before .before .args in
+    rsm-body (a .head) (a .at) (drop (a .at) (a .text .now))
+    ≡ cond b (message.Rsm (record { head = a .head; mac = numeral-of (k .before .before .before .check-field .result) })) message.Nothing
+whole k b e =
     let a = k .before .before .before .before .before .before .args in
-    let v = k .before .value .given .0 in
-    check-next (tag MAC) (a .text .now) (a .at) (v .0) (v .1 .0) _
-    (sym (k .before .before .before .check-field .ensures) ∙ k .before .value .given .1) (omega arith)
+    let m = k .before .before .before .check-field in
+    rsm-step (a .head) (a .text .now) (a .at) (m .ensures) b
+    (sym (k .both .ensures ∙ ap (λ (z : Bool). m .result .place .there && z) (k .before .closing .ensures)) ∙ e)
 
 returns : tie.Need-returns
 returns c =
-    let a = c .before .before .before .before .before .args in
-    let no = check-none (field MAC .read (drop (a .at) (a .text .now)))
-    (sym (c .before .before .check-field .ensures) ∙ c .enum-told .given .1) in
-    sym (rsm-stop (a .head) (a .text .now) (a .at) no)
-
-add-closing : tie.Need-add-closing
-add-closing c = omega (arith, mac c .within)
-
-add-closing-2 : tie.Need-add-closing-2
-add-closing-2 c = omega (arith, mac c .within)
+    let h = c .before .before .before .before .before .before .before .before .args .head in
+    ap (λ (w : Numeral). message.Rsm (record { head = h; mac = w })) (c .numeral-of .ensures)
+    ∙ sym (whole (c .before .before) true (c .before .if1 .taken))
 
 returns-2 : tie.Need-returns-2
-returns-2 c =
-    sym (rsm-step _ _ _ _ _ (mac (c .before .before)) true (sym (c .before .closing .ensures) ∙ c .if1 .taken))
-
-returns-3 : tie.Need-returns-3
-returns-3 c =
-    sym (rsm-step _ _ _ _ _ (mac (c .before .before)) false (sym (c .before .closing .ensures) ∙ c .if1 .left))
+returns-2 c = sym (whole (c .before) false (c .if1 .left))
 
 pub rsm-at-spec : {M : Type 1} → statement M
 rsm-at-spec =
@@ -49,11 +35,8 @@ rsm-at-spec =
     (tie.spec
     (λ c. search needs)
     (λ c κs. search needs)
-    (λ c. search needs)
-    (λ c. search needs)
-    returns
-    add-closing
-    add-closing-2
     (λ c κs. search needs)
-    returns-2
-    returns-3)
+    (λ c κs. search needs)
+    (λ c κs. search needs)
+    returns
+    returns-2)

@@ -23,7 +23,7 @@ block : (v : tie.After-value)
     → Block (drop 1 (v .before .before .before .before .before .before .args .w .now)) (v .value .given .0 .0)
 block v =
     let w = v .before .before .before .before .before .before .args .w .now in
-    block-is (drop 1 w) (v .value .given .0 .0) (v .value .given .0 .1 .0)
+    block-is (drop 1 w) (v .value .given .0 .0)
     (whole w _ (sym (v .before .before .block .ensures) ∙ v .value .given .1))
 
 returns : tie.Need-returns

@@ -3,7 +3,7 @@ use mathlib.Core.Path.{_≡_, ap, _∙_}
 use mathlib.Core.Bool.{Bool}
 use mathlib.Core.List.{List}
 use Prim.Native.Nat.{ℕ}
-use Rattle.reader.specs.Parts as parts
+use Rattle.octets.specs.Part.{part}
 use Rattle.partner.specs.Entry.{keys-in}
 use Rattle.calls.specs.Outcome.{F, M, P}
 use Rattle.calls.specs.Receive.{iv-value, bad-count, when}
@@ -15,41 +15,41 @@ use Rattle.receiving.proofs.judging.judge.Tie as tie
 
 -- the value of the IV
 value : (c : tie.After-iv-value)
-    → let a = c .before .before .before .before .before .args in
-    c .iv-value .result ≡ value-of (iv-value (keys-in (a .set)) (parts.iv (a .m) (a .text .now)))
+    → let a = c .before .before .before .before .before .before .args in
+    c .iv-value .result ≡ value-of (iv-value (keys-in (a .set)) (part (a .text .now) (a .m .iv)))
 value c =
     let iv = c .before .before in
-    c .iv-value .ensures ∙ (λ i. value-of (iv-value (iv .before .data-keys .ensures i) (iv .iv .ensures i)))
+    c .iv-value .ensures ∙ (λ i. value-of (iv-value (iv .before .data-keys .ensures i) (iv .part .ensures i)))
 
 -- the letters of F, M and P
 format : (c : tie.After-letter)
     → let v = c .before .before in
-    let a = v .before .before .before .before .before .args in
+    let a = v .before .before .before .before .before .before .args in
     c .letter .result
-    ≡ when (bad-format (parts.iv (a .m) (a .text .now)) (v .iv-value .result) (parts.edk (a .m) (a .text .now))) F
+    ≡ when (bad-format (part (a .text .now) (a .m .iv)) (v .iv-value .result) (part (a .text .now) (a .m .edk))) F
 format c =
     let v = c .before .before in
     let edk = v .before in
     c .letter .ensures .0 ∙ ap (λ (b : Bool). when b F) (c .before .bad-format .ensures)
-    ∙ (λ i. when (bad-format (edk .before .iv .ensures i) (v .iv-value .result) (edk .edk .ensures i)) F)
+    ∙ (λ i. when (bad-format (edk .before .part .ensures i) (v .iv-value .result) (edk .part2 .ensures i)) F)
 
 mac : (c : tie.After-letter2)
-    → let a = c .before .before .before .before .before .before .before .before .before .args in
-    c .letter2 .result ≡ when (bad-mac (keys-in (a .set)) (a .text .now) (a .m .mac)) M
+    → let a = c .before .before .before .before .before .before .before .before .before .before .args in
+    c .letter2 .result ≡ when (bad-mac (keys-in (a .set)) (a .text .now) (a .m .mac .value)) M
 mac c =
     let keys = c .before .before .before .before .before .before .before in
-    let a = keys .before .before .args in
+    let a = keys .before .before .before .args in
     c .letter2 .ensures .0
     ∙ ap (λ (b : Bool). when b M) (c .before .bad-mac .ensures
-    ∙ ap (λ (ks : List ℕ). bad-mac ks (a .text .now) (a .m .mac)) (keys .data-keys .ensures))
+    ∙ ap (λ (ks : List ℕ). bad-mac ks (a .text .now) (a .m .mac .value)) (keys .data-keys .ensures))
 
 count : (c : tie.After-letter3)
-    → let a = c .before .before .before .before .before .before .before .before .before .before .before .args in
-    c .letter3 .result ≡ when (bad-count (a .e .expected) (a .m .ctp)) P
+    → let a = c .before .before .before .before .before .before .before .before .before .before .before .before .args in
+    c .letter3 .result ≡ when (bad-count (a .e .receiving .expected) (a .m .ctp .value)) P
 count c = c .letter3 .ensures .0 ∙ ap (λ (b : Bool). when b P) (c .before .bad-count .ensures)
 
 bad-mac-requires : tie.Need-bad-mac-requires
-bad-mac-requires c κs = c .before .before .before .before .before .before .before .pre .sealed
+bad-mac-requires c κs = c .before .before .before .before .before .before .before .before .pre .sealed
 
 returns : tie.Need-returns
 returns c =
@@ -57,10 +57,10 @@ returns c =
     let m = p .before .before in
     let f = m .before .before in
     let v = f .before .before in
-    let s = v .before .before .before .before .before in
+    let s = v .before .before .before .before .before .before in
     let a = s .args in
     let letters = faults-same (a .e) (a .set) (a .m) (a .text .now) _ (value v) _ _ _ (format f) (mac m) (count p) in
-    let told = c .handed .ensures ∙ ap (handed-out (v .iv-value .result)) (v .before .edk .ensures)
+    let told = c .handed .ensures ∙ ap (handed-out (v .iv-value .result)) (v .before .part2 .ensures)
     ∙ told-same (a .e) (a .set) (a .m) (a .text .now) _ (value v) (s .pre) in
     λ i. record { letters = letters i; report = told i }
 

@@ -13,7 +13,7 @@ returns : tie.Need-returns
 returns c =
     let a = c .before .before .before .before .before .before .args in
     let n = c .before .before .before in
-    let name = n .name-of .ensures ∙ ap (λ (w : Text). name-of w) (n .before .first-idk1 .ensures) in
+    let name = n .name-of .ensures ∙ ap (λ (w : Text). name-of w) (n .before .part .ensures) in
     c .one-key .ensures ∙ ap (λ (n : Name). one-key (record { key = a .first; name = n })) name
     ∙ keys-of-one (a .first) (a .second) (a .m) (a .text .now) (not-true _ (c .before .if1 .taken))
 
@@ -21,8 +21,8 @@ returns-2 : tie.Need-returns-2
 returns-2 c =
     let a = c .before .before .before .before .before .before .before .before .args in
     let n = c .before .before .before .before .before in
-    let name = n .name-of .ensures ∙ ap (λ (w : Text). name-of w) (n .before .first-idk1 .ensures) in
-    let other = c .before .name-of2 .ensures ∙ ap (λ (w : Text). name-of w) (c .before .before .second-idk1 .ensures) in
+    let name = n .name-of .ensures ∙ ap (λ (w : Text). name-of w) (n .before .part .ensures) in
+    let other = c .before .name-of2 .ensures ∙ ap (λ (w : Text). name-of w) (c .before .before .part2 .ensures) in
     c .two-keys .ensures
     ∙ (λ i. two-keys (record { key = a .first; name = name i }) (record { key = a .second; name = other i }))
     ∙ keys-of-two (a .first) (a .second) (a .m) (a .text .now) (not-false _ (c .before .before .before .if1 .left))

@@ -6,6 +6,8 @@ use borrow.Author.Tests.{not-true, not-false}
 use Rattle.keying.specs.declared.Top.{Top}
 use Rattle.keying.specs.Parity.{odd}
 use Rattle.keying.specs.Keys.{working, unseal}
+use Rattle.keying.proofs.Laws.{first-made, second-made}
+use Rattle.partner.specs.Entry.{top-of}
 use Rattle.receiving.specs.declared.keys.Opened.the-variants.{Keys}
 use Rattle.receiving.specs.Texts.{ksm-in}
 use Rattle.receiving.specs.Stages.{any-foreign}
@@ -21,43 +23,50 @@ ours : (c : tie.Else1)
     any-foreign (a .e) (ksm-in (a .m) (a .text .now)) ≡ false
 ours c = sym (c .before .any-foreign .ensures) ∙ c .if1 .left
 
+-- the top key offset by the CTP
+key-is : (c : tie.After-unseal)
+    → let k = c .before .before .before in
+    let a = k .before .before .before .before .before .args in
+    k .working .result ≡ working (top-of (a .e .top)) (a .m .ctp .value)
+key-is c =
+    let k = c .before .before .before in
+    let a = k .before .before .before .before .before .args in
+    k .working .ensures ∙ ap (λ (t : Top). working t (a .m .ctp .value)) (k .before .top-of .ensures)
+
 -- the first key deciphered, and K of it
 first-plain : (c : tie.After-unseal)
     → let a = c .before .before .before .before .before .before .before .before .args in
-    c .unseal .result ≡ plain (a .e) (a .m) (a .text .now) (a .m .first)
+    c .unseal .result .first ≡ plain (a .e) (a .m) (a .text .now) (a .m .first)
 first-plain c =
     let a = c .before .before .before .before .before .before .before .before .args in
-    let key = c .before .before .before .working .ensures
-    ∙ ap (λ (t : Top). working t (a .m .ctp)) (c .before .before .before .before .top-of .ensures) in
-    c .unseal .ensures ∙ ap (λ (t : Top). unseal t (a .m .first .kd .key)) key
+    first-made _ _ (c .unseal .ensures) ∙ ap (λ (t : Top). unseal t (a .m .first .key)) (key-is c)
 
 first-uneven : (c : tie.After-uneven)
     → let a = c .before .before .before .before .before .before .before .before .before .args in
     uneven-key (a .e) (a .m) (a .text .now) (a .m .first) ≡ c .uneven .result
 first-uneven c =
     let a = c .before .before .before .before .before .before .before .before .before .args in
-    sym (c .uneven .ensures ∙ ap (λ (k : ℕ). a .m .first .kd .p && not (odd k)) (first-plain (c .before)))
+    sym (c .uneven .ensures ∙ ap (λ (k : ℕ). a .m .first .p && not (odd k)) (first-plain (c .before)))
 
 -- the second key deciphered, and K of it
-second-plain : (c : tie.After-unseal2)
-    → let f = c .before .before .before .before .before .before .before in
-    let a = f .before .before .before .before .before .before .before .before .args in
-    c .unseal2 .result ≡ plain (a .e) (a .m) (a .text .now) (a .m .second)
+second-plain : (c : tie.Else3)
+    → let u = c .before .before .before .before in
+    let a = u .before .before .before .before .before .before .before .before .args in
+    u .unseal .result .second ≡ plain (a .e) (a .m) (a .text .now) (a .m .second)
 second-plain c =
-    let f = c .before .before .before .before .before .before .before in
-    let a = f .before .before .before .before .before .before .before .before .args in
-    let key = f .before .before .before .working .ensures
-    ∙ ap (λ (t : Top). working t (a .m .ctp)) (f .before .before .before .before .top-of .ensures) in
-    c .unseal2 .ensures ∙ ap (λ (t : Top). unseal t (a .m .second .kd .key)) key
+    let u = c .before .before .before .before in
+    let a = u .before .before .before .before .before .before .before .before .args in
+    second-made _ _ (u .unseal .ensures) (not-false _ (c .if3 .left))
+    ∙ ap (λ (t : Top). unseal t (a .m .second .key)) (key-is u)
 
 second-uneven : (c : tie.After-uneven2)
-    → let f = c .before .before .before .before .before .before .before .before in
-    let a = f .before .before .before .before .before .before .before .before .args in
+    → let u = c .before .before .before .before .before in
+    let a = u .before .before .before .before .before .before .before .before .args in
     uneven-key (a .e) (a .m) (a .text .now) (a .m .second) ≡ c .uneven2 .result
 second-uneven c =
-    let f = c .before .before .before .before .before .before .before .before in
-    let a = f .before .before .before .before .before .before .before .before .args in
-    sym (c .uneven2 .ensures ∙ ap (λ (k : ℕ). a .m .second .kd .p && not (odd k)) (second-plain (c .before)))
+    let u = c .before .before .before .before .before in
+    let a = u .before .before .before .before .before .before .before .before .args in
+    sym (c .uneven2 .ensures ∙ ap (λ (k : ℕ). a .m .second .p && not (odd k)) (second-plain (c .before)))
 
 returns : tie.Need-returns
 returns c =
@@ -81,7 +90,7 @@ returns-3 c =
 
 returns-4 : tie.Need-returns-4
 returns-4 c =
-    let two = c .before .before .before .before .before in
+    let two = c .before .before in
     let even = two .before .before in
     let own = even .before .before .before .before .before .before .before in
     let a = own .before .before .before .args in
@@ -90,11 +99,11 @@ returns-4 c =
 
 returns-5 : tie.Need-returns-5
 returns-5 c =
-    let two = c .before .before .before .before .before in
+    let two = c .before .before in
     let even = two .before .before in
     let own = even .before .before .before .before .before .before .before in
     let a = own .before .before .before .args in
-    (λ i. Keys (first-plain (even .before .before) i) (second-plain (c .before .before) i))
+    (λ i. Keys (first-plain (even .before .before) i) (second-plain two i))
     ∙ open-two (a .e) (a .m) (a .text .now) (ours own) (first-uneven (even .before) ∙ even .if2 .left)
     (not-false _ (two .if3 .left)) (second-uneven (c .before) ∙ c .if4 .left)
 
@@ -110,7 +119,6 @@ open-keys-spec =
     (λ c κs. search needs)
     returns-2
     returns-3
-    (λ c κs. search needs)
     (λ c κs. search needs)
     returns-4
     returns-5)

@@ -7,6 +7,7 @@ use lib.ListN.{length-append}
 use Rattle.octets.specs.Text.{Text}
 use Rattle.octets.specs.Number.{copies}
 use Rattle.octets.specs.Wrote.{over}
+use Rattle.octets.proofs.Writing.{wrote-as}
 use Rattle.partner.specs.declared.Name.{Name}
 use Rattle.partner.specs.Entry.{filled}
 use Rattle.partner.proofs.Naming.{length-filled}
@@ -21,13 +22,11 @@ slice-aggregate-copy c =
 returns : tie.Need-returns
 returns c =
     let a = c .before .before .before .before .before .before .before .before .before .before .before .before .before .before .args in
-    let out : Text = a .out .now in
     let w : Text = filled (a .own .now) in
     let n = c .before .before .before .before .before .before .before .before .before .before .before .name-of .ensures in
     let k : c .before .before .before .before .before .before .copy .last .0 ≡ over w (copies 16 1) =
-    c .before .before .before .before .before .before .copy .ensures .0 ∙ ap (λ (m : Name). over (m .bytes) (copies 16 1)) n in
-    c .before .before .copy2 .ensures .0
-    ∙ ap (λ (t : Text). over t out) (ap (λ (t : Text). 1 ∷ (t ++ [])) k ∙ front-is w (length-filled (a .own .now)))
+    c .before .before .before .before .before .before .copy .ensures .text ∙ ap (λ (m : Name). over (m .bytes) (copies 16 1)) n in
+    wrote-as (ap (λ (t : Text). 1 ∷ (t ++ [])) k ∙ front-is w (length-filled (a .own .now))) (c .before .before .copy2 .ensures)
 
 pub put-front-spec : {M : Type 1} → statement M
 put-front-spec =

@@ -1,5 +1,5 @@
 -- `row::stored::written` meets its contract: a refusal, or the front and its report. Assumes nothing.
-use mathlib.Core.Path.{sym, ap, _∙_}
+use mathlib.Core.Path.{sym, _∙_}
 use borrow.Author.Tests.{eq-eqb, ne-eqb}
 use Rattle.row.specs.Stored.{write-report, fronted}
 use borrow.Author.Needs.{needs}
@@ -16,7 +16,7 @@ returns-2 : tie.Need-returns-2
 unfolding write-report fronted
 returns-2 c =
     let f = eq-eqb _ 0 (c .before .before .before .before .before .if1 .left) in
-    (c .told-nothing .ensures ∙ sym (rw f), c .before .before .before .put-front .ensures ∙ sym (rw f))
+    (c .told-nothing .ensures ∙ sym (rw f), c .before .before .before .put-front .ensures .text ∙ sym (rw f))
 
 pub written-spec : {M : Type 1} → statement M
 written-spec =

@@ -1,6 +1,6 @@
 -- `sight::aims::originator` meets its contract: by whether RCV is us. Assumes nothing.
 use Rattle.octets.specs.Text.{Text, same}
-use Rattle.reader.specs.Parts as parts
+use Rattle.octets.specs.Part.{part}
 use Rattle.sight.specs.Aim.{at-partner, refused}
 use mathlib.Core.Path.{_≡_, sym, ap, _∙_}
 use mathlib.Core.Bool.{Bool, true, false, not, cond}
@@ -14,21 +14,21 @@ returns : tie.Need-returns
 unfolding originator
 returns c =
     let a = c .before .before .before .before .before .before .args in
-    let t : Text = parts.rcv (a .head) (a .text .now) in
+    let t : Text = part (a .text .now) (a .head .rcv) in
     let k : same t (a .own .now) ≡ false =
-    ap (λ (w : Text). same w (a .own .now)) (sym (c .before .before .before .rcv .ensures)) ∙ sym (c .before .before .same .ensures) ∙ not-true _ (c .before .if1 .taken) in
+    ap (λ (w : Text). same w (a .own .now)) (sym (c .before .before .before .part .ensures)) ∙ sym (c .before .before .same .ensures) ∙ not-true _ (c .before .if1 .taken) in
     c .refused .ensures
-    ∙ sym (ap (λ (b : Bool). cond (not b) (refused (a .own .now) 2) (at-partner (a .own .now) (parts.org (a .head) (a .text .now)))) k)
+    ∙ sym (ap (λ (b : Bool). cond (not b) (refused (a .own .now) 2) (at-partner (a .own .now) (part (a .text .now) (a .head .org)))) k)
 
 returns-2 : tie.Need-returns-2
 unfolding originator
 returns-2 c =
     let a = c .before .before .before .before .before .before .before .args in
-    let t : Text = parts.rcv (a .head) (a .text .now) in
+    let t : Text = part (a .text .now) (a .head .rcv) in
     let k : same t (a .own .now) ≡ true =
-    ap (λ (w : Text). same w (a .own .now)) (sym (c .before .before .before .before .rcv .ensures)) ∙ sym (c .before .before .before .same .ensures) ∙ not-false _ (c .before .before .if1 .left) in
-    c .at-partner .ensures ∙ ap (λ (w : Text). at-partner (a .own .now) w) (c .before .org .ensures)
-    ∙ sym (ap (λ (b : Bool). cond (not b) (refused (a .own .now) 2) (at-partner (a .own .now) (parts.org (a .head) (a .text .now)))) k)
+    ap (λ (w : Text). same w (a .own .now)) (sym (c .before .before .before .before .part .ensures)) ∙ sym (c .before .before .before .same .ensures) ∙ not-false _ (c .before .before .if1 .left) in
+    c .at-partner .ensures ∙ ap (λ (w : Text). at-partner (a .own .now) w) (c .before .part2 .ensures)
+    ∙ sym (ap (λ (b : Bool). cond (not b) (refused (a .own .now) 2) (at-partner (a .own .now) (part (a .text .now) (a .head .org)))) k)
 
 pub originator-spec : {M : Type 1} → statement M
 originator-spec =

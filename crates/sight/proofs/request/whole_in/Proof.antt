@@ -1,9 +1,11 @@
 -- `sight::request::whole_in` meets its contract, part by part. Assumes nothing.
-use mathlib.Core.Path.{_∙_}
+use mathlib.Core.Path.{ap, _∙_}
+use Prim.Native.Nat.{_^_, _%_}
 use native.Mathlib.Omega.{arith}
-use lib.ListN.{getD}
+use Rattle.octets.specs.Text.{Text}
+use Rattle.octets.specs.Number.{number}
 use Rattle.octets.proofs.Comparing.{octets-lent}
-use Rattle.sight.proofs.Requests.{number-part}
+use Rattle.octets.proofs.Parts.{part-cut, part-byte, part-fits}
 use Rattle.sight.specs.Request.{whole-in}
 use borrow.Author.Needs.{needs}
 use Rattle.sight.proofs.request.whole_in.Statement.{statement}
@@ -12,17 +14,21 @@ use Rattle.sight.proofs.request.whole_in.Tie as tie
 returns : tie.Need-returns
 unfolding whole-in
 returns c =
-    let s = c .before .before .before .before .before .before .before .before .before .args .s .now in
-    let k = c .before .before .before .before .before .before .before .before in
-    let o = octets-lent s (k .shared-slice-known .given) in
-    let v = c .before .before .number .ensures ∙ number-part s 52 60 o (omega arith) (omega arith) in
+    let keys = c .before .before .before .before .before in
+    let start = keys .before .before .before .before in
+    let s = start .args .s .now in
+    let h = start .pre in
+    let o = octets-lent s (keys .before .before .before .shared-slice-known .given) in
+    let v = c .before .before .number .ensures
+    ∙ ap (λ (t : Text). number t % 2 ^ 64) (part-cut 8 52 60 s (omega arith) (omega arith))
+    ∙ part-fits 8 52 s o (omega arith) in
     λ i. record {
-      count = getD s 0 0;
-      first = c .before .before .before .before .before .before .key-request-in .ensures i;
-      second = c .before .before .before .before .before .key-request-in2 .ensures i;
-      kind = getD s 51 0;
+      count = part-byte 0 s (omega arith) i;
+      first = keys .before .key-request-in .ensures i;
+      second = keys .key-request-in2 .ensures i;
+      kind = part-byte 51 s (omega arith) i;
       iv = v i;
-      dated = getD s 60 0;
+      dated = part-byte 60 s (omega arith) i;
       date = c .date-in .ensures i;
     }
 

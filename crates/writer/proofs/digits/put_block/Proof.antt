@@ -1,5 +1,5 @@
 -- `writer::digits::put_block` meets its contract: the text, then 16 digits. Assumes nothing.
-use Rattle.writer.proofs.Laying.{laid-rest}
+use Rattle.octets.proofs.Writing.{wrote-rest}
 use borrow.Author.Needs.{needs}
 use Rattle.writer.proofs.digits.put_block.Statement.{statement}
 use Rattle.writer.proofs.digits.put_block.Tie as tie
@@ -7,7 +7,7 @@ use Rattle.writer.proofs.digits.put_block.Tie as tie
 returns : tie.Need-returns
 returns c =
     let w = c .before .before in
-    laid-rest (w .before .before .before .before .put-text .ensures) (w .put-hex .ensures)
+    wrote-rest (w .before .before .before .before .put-text .ensures) (w .put-hex .ensures)
 
 pub put-block-spec : {M : Type 1} → statement M
 put-block-spec =

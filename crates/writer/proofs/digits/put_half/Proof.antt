@@ -1,5 +1,5 @@
 -- `writer::digits::put_half` meets its contract: four digits, then a blank. Assumes nothing.
-use Rattle.writer.proofs.Laying.{laid-rest}
+use Rattle.octets.proofs.Writing.{wrote-rest}
 use borrow.Author.Needs.{needs}
 use Rattle.writer.proofs.digits.put_half.Statement.{statement}
 use Rattle.writer.proofs.digits.put_half.Tie as tie
@@ -7,7 +7,7 @@ use Rattle.writer.proofs.digits.put_half.Tie as tie
 returns : tie.Need-returns
 returns c =
     let w = c .before .before in
-    laid-rest (w .before .before .before .before .before .put-hex .ensures) (w .put-text .ensures)
+    wrote-rest (w .before .before .before .before .before .put-hex .ensures) (w .put-text .ensures)
 
 pub put-half-spec : {M : Type 1} → statement M
 put-half-spec =

@@ -55,9 +55,7 @@ same-length : tie.Need-same-length Inv-loop μ-loop
 same-length c = c .before .loop .inv .1 .size
 
 returns : tie.Need-returns Inv-loop μ-loop
-returns c =
-    let d = laying-all (c .before .loop .inv .1) (omega arith) in
-    record { text = d .0; count = d .1 }
+returns c = laying-all (c .before .loop .inv .1) (omega arith)
 
 pub put-hex-spec : {M : Type 1} → statement M
 put-hex-spec =

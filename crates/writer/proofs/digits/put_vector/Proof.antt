@@ -2,7 +2,7 @@
 use mathlib.Core.List.{[], _∷_, append-assoc}
 use Rattle.octets.specs.Text.{blank}
 use Rattle.csm.specs.Fields.{hex-text}
-use Rattle.writer.proofs.Laying.{laid-rest, laid-as}
+use Rattle.octets.proofs.Writing.{wrote-rest, wrote-as}
 use borrow.Author.Needs.{needs}
 use Rattle.writer.proofs.digits.put_vector.Statement.{statement}
 use Rattle.writer.proofs.digits.put_vector.Tie as tie
@@ -12,8 +12,8 @@ returns c =
     let w = c .before .before in
     let v = w .before .before .before .before .before in
     let a = v .before .before .before .before .args in
-    laid-as (append-assoc (a .front .now) (hex-text 16 (a .x)) (blank ∷ []))
-    (laid-rest (v .put-block .ensures) (w .put-text .ensures))
+    wrote-as (append-assoc (a .front .now) (hex-text 16 (a .x)) (blank ∷ []))
+    (wrote-rest (v .put-block .ensures) (w .put-text .ensures))
 
 pub put-vector-spec : {M : Type 1} → statement M
 put-vector-spec =

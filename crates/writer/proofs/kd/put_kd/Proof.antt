@@ -2,24 +2,28 @@
 use mathlib.Core.Path.{_≡_, ap, _∙_}
 use mathlib.Core.List.{[], _∷_, _++_, append-assoc}
 use Rattle.octets.specs.Text.{Text, ascii, blank}
+use Rattle.octets.proofs.Writing.{wrote-rest, wrote-as}
 use Rattle.csm.specs.Fields.{hex-text, subfields, nonempty}
-use Rattle.writer.proofs.Laying.{laid-rest, laid-as}
 use borrow.Author.Needs.{needs}
 use Rattle.writer.proofs.kd.put_kd.Statement.{statement}
 use Rattle.writer.proofs.kd.put_kd.Tie as tie
+
+-- the tag, the digits, the subfields and the blank, grouped as the format has them
+grouped : (t h s b : Text) → ((t ++ h) ++ s) ++ b ≡ t ++ ((h ++ s) ++ b)
+grouped t h s b = ap (λ (r : Text). r ++ b) (append-assoc t h s) ∙ append-assoc t (h ++ s) b
 
 returns : tie.Need-returns
 returns c =
     let w = c .before .before in
     let v = w .before .before .before .before .before in
-    let u = v .before .before .before .before in
-    let a = u .before .before .before .before .before .before .args in
-    let s = subfields (a .key .p) (nonempty (a .idk1 .now)) (nonempty (a .idk2 .now)) in
-    let h = hex-text 16 (a .key .sealed) in
-    let e : ((ascii "KD/" ++ h) ++ s) ++ blank ∷ [] ≡ ascii "KD/" ++ ((h ++ s) ++ blank ∷ []) =
-    ap (λ (t : Text). t ++ blank ∷ []) (append-assoc (ascii "KD/") h s)
-    ∙ append-assoc (ascii "KD/") (h ++ s) (blank ∷ []) in
-    laid-as e (laid-rest (laid-rest (u .put-block .ensures) (v .put-subfields .ensures)) (w .put-text .ensures))
+    let u = v .before .before .before .before .before .before .before .before in
+    let key = u .before .before .before .before .before .before .args .key in
+    let h = hex-text 16 (key .sealed) in
+    let idk1 = v .before .before .before .bare .ensures in
+    let idk2 = v .before .bare2 .ensures in
+    wrote-as
+    (λ i. grouped (ascii "KD/") h (subfields (key .p) (nonempty (idk1 i)) (nonempty (idk2 i))) (blank ∷ []) i)
+    (wrote-rest (wrote-rest (u .put-block .ensures) (v .put-subfields .ensures)) (w .put-text .ensures))
 
 pub put-kd-spec : {M : Type 1} → statement M
 put-kd-spec =
@@ -30,6 +34,10 @@ put-kd-spec =
     (λ c. search needs)
     (λ c. search needs)
     (λ c. search needs)
+    (λ c. search needs)
+    (λ c κs. search needs)
+    (λ c. search needs)
+    (λ c κs. search needs)
     (λ c κs. search needs)
     (λ c. search needs)
     (λ c. search needs)

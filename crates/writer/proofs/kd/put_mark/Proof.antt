@@ -2,7 +2,7 @@
 use mathlib.Core.Path.{sym, ap}
 use mathlib.Core.Bool.{Bool}
 use Rattle.csm.specs.Fields.{sub, mark}
-use Rattle.writer.proofs.Laying.{laid-as}
+use Rattle.octets.proofs.Writing.{wrote-as}
 use borrow.Author.Needs.{needs}
 use Rattle.writer.proofs.kd.put_mark.Statement.{statement}
 use Rattle.writer.proofs.kd.put_mark.Tie as tie
@@ -10,12 +10,12 @@ use Rattle.writer.proofs.kd.put_mark.Tie as tie
 returns : tie.Need-returns
 returns c =
     let w = c .before .before in
-    laid-as (ap (λ (p : Bool). sub (mark p)) (sym (w .before .before .before .if1 .taken))) (w .put-text .ensures)
+    wrote-as (ap (λ (p : Bool). sub (mark p)) (sym (w .before .before .before .if1 .taken))) (w .put-text .ensures)
 
 returns-2 : tie.Need-returns-2
 returns-2 c =
     let w = c .before .before in
-    laid-as (ap (λ (p : Bool). sub (mark p)) (sym (w .before .before .before .if1 .left))) (w .put-text2 .ensures)
+    wrote-as (ap (λ (p : Bool). sub (mark p)) (sym (w .before .before .before .if1 .left))) (w .put-text2 .ensures)
 
 pub put-mark-spec : {M : Type 1} → statement M
 put-mark-spec =

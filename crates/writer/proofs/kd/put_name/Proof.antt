@@ -1,5 +1,5 @@
 -- `writer::kd::put_name` meets its contract: a dot, then the name. Assumes nothing.
-use Rattle.writer.proofs.Laying.{laid-rest}
+use Rattle.octets.proofs.Writing.{wrote-rest}
 use borrow.Author.Needs.{needs}
 use Rattle.writer.proofs.kd.put_name.Statement.{statement}
 use Rattle.writer.proofs.kd.put_name.Tie as tie
@@ -7,7 +7,7 @@ use Rattle.writer.proofs.kd.put_name.Tie as tie
 returns : tie.Need-returns
 returns c =
     let w = c .before .before in
-    laid-rest (w .before .before .before .before .put-text .ensures) (w .put-text2 .ensures)
+    wrote-rest (w .before .before .before .before .put-text .ensures) (w .put-text2 .ensures)
 
 pub put-name-spec : {M : Type 1} → statement M
 put-name-spec =

@@ -1,7 +1,7 @@
 -- `writer::kd::put_subfields` meets its contract in each of the four cases. Assumes nothing.
 use native.Mathlib.Omega.{arith}
 use Rattle.writer.proofs.Subfields.{three, two, marked, bare-key}
-use Rattle.writer.proofs.Laying.{laid-rest, laid-as, laid-nothing}
+use Rattle.octets.proofs.Writing.{wrote-rest, wrote-as, wrote-nothing}
 use borrow.Author.Needs.{needs}
 use Rattle.writer.proofs.kd.put_subfields.Statement.{statement}
 use Rattle.writer.proofs.kd.put_subfields.Tie as tie
@@ -11,27 +11,27 @@ returns c =
     let w = c .before .before in
     let v = w .before .before .before .before in
     let a = v .before .before .before .before .before .before .args in
-    laid-as (three (a .p) (a .idk1 .now) (a .idk2 .now) (omega arith))
-    (laid-rest (v .put-two .ensures) (w .put-name .ensures))
+    wrote-as (three (a .p) (a .idk1 .now) (a .idk2 .now) (omega arith))
+    (wrote-rest (v .put-two .ensures) (w .put-name .ensures))
 
 returns-2 : tie.Need-returns-2
 returns-2 c =
     let w = c .before .before in
     let a = w .before .before .before .before .before .before .before .args in
-    laid-as (two (a .p) (a .idk1 .now) (a .idk2 .now) (omega arith) (omega arith)) (w .put-two2 .ensures)
+    wrote-as (two (a .p) (a .idk1 .now) (a .idk2 .now) (omega arith) (omega arith)) (w .put-two2 .ensures)
 
 returns-3 : tie.Need-returns-3
 returns-3 c =
     let w = c .before .before in
     let a = w .before .before .before .before .before .before .before .before .args in
-    laid-as (marked (a .p) (a .idk1 .now) (a .idk2 .now) (omega arith) (omega arith) (w .before .before .if3 .taken))
+    wrote-as (marked (a .p) (a .idk1 .now) (a .idk2 .now) (omega arith) (omega arith) (w .before .before .if3 .taken))
     (w .put-mark .ensures)
 
 returns-4 : tie.Need-returns-4
 returns-4 c =
     let a = c .before .before .before .before .before .before .args in
-    laid-as (bare-key (a .p) (a .idk1 .now) (a .idk2 .now) (omega arith) (omega arith) (c .if3 .left))
-    (laid-nothing (a .rest .now))
+    wrote-as (bare-key (a .p) (a .idk1 .now) (a .idk2 .now) (omega arith) (omega arith) (c .if3 .left))
+    (wrote-nothing (a .rest .now))
 
 pub put-subfields-spec : {M : Type 1} → statement M
 put-subfields-spec =

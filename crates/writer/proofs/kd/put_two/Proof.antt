@@ -1,5 +1,5 @@
 -- `writer::kd::put_two` meets its contract: the mark's subfield, then the name's. Assumes nothing.
-use Rattle.writer.proofs.Laying.{laid-rest}
+use Rattle.octets.proofs.Writing.{wrote-rest}
 use borrow.Author.Needs.{needs}
 use Rattle.writer.proofs.kd.put_two.Statement.{statement}
 use Rattle.writer.proofs.kd.put_two.Tie as tie
@@ -7,7 +7,7 @@ use Rattle.writer.proofs.kd.put_two.Tie as tie
 returns : tie.Need-returns
 returns c =
     let w = c .before .before in
-    laid-rest (w .before .before .before .before .put-mark .ensures) (w .put-name .ensures)
+    wrote-rest (w .before .before .before .before .put-mark .ensures) (w .put-name .ensures)
 
 pub put-two-spec : {M : Type 1} → statement M
 put-two-spec =
