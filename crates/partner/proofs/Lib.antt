@@ -1,4 +1,5 @@
 pub mod Naming
+pub mod Spacing
 pub mod Storing
 pub mod Ruling
 pub mod Keeping

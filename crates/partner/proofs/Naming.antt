@@ -41,7 +41,7 @@ bare-append w (suc n) h =
     let b : before blank (w ++ copies (suc n) blank) ≡ length w = before-first blank w (copies n blank) h in
     ap (λ (k : ℕ). take k (w ++ copies (suc n) blank)) b ∙ take-at w (copies (suc n) blank) (length w) refl
 
-append-copies : (w : Text) (k j n b : ℕ) → length w + n ≡ k → k ≤ j → take k (w ++ copies j b) ≡ w ++ copies n b
+pub append-copies : (w : Text) (k j n b : ℕ) → length w + n ≡ k → k ≤ j → take k (w ++ copies j b) ≡ w ++ copies n b
 append-copies [] k j n b l h =
     let e : k ≡ n = omega arith in
     take-copies k j b h ∙ ap (λ (m : ℕ). copies m b) e
@@ -49,7 +49,7 @@ append-copies (x ∷ w) zero j n b l h = absurd (omega arith)
 append-copies (x ∷ w) (suc k) j n b l h =
     ap (λ (t : Text). x ∷ t) (append-copies w k j n b (omega arith) (omega arith))
 
-name-parts : (w : Text) → is-name w ≡ true → (free blank w ≡ true) × (length w ≤ 16)
+pub name-parts : (w : Text) → is-name w ≡ true → (free blank w ≡ true) × (length w ≤ 16)
 name-parts w h =
     let t = both (all (run-char (code "Z")) w) (within 1 16 (length w)) h in
     let s = both (leb 1 (length w)) (leb (length w) 16) (t .1) in

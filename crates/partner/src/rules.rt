@@ -1,7 +1,7 @@
 // When an entry is legal by itself: the rules of document 01's list, in its order.
 ghost use mathlib.Core.Path.{_≡_};
 ghost use mathlib.Core.Bool.{_||_};
-ghost use Rattle.octets.specs.Text.{within};
+ghost use Rattle.octets.specs.Text.{within, run-char};
 ghost use Rattle.partner.specs.Legal as rule;
 use crate::BROKEN;
 use crate::CONFIRMED;
@@ -18,13 +18,30 @@ use crate::Sending;
 use crate::TopKey;
 use crate::WAITING;
 
-// Whether a text is a name filled with blanks.
+// Whether b is a character of a name.
+fn is_letter(b: u8) -> bool
+    ensures { λ r. ⌜ r ≡ run-char 90 b ⌝ }
+{
+    (b'0' <= b) & (b <= b'9') | (b'A' <= b) & (b <= b'Z')
+}
+
+// Whether a text is a name filled with blanks, from the end on: blanks, and characters before them.
 pub fn is_filled(s: &[u8]) -> bool
     ensures { λ r. ⌜ r ≡ rule.is-filled (now (s .entry)) ⌝ }
 {
-    let w = octets::bare(s);
-    let name = crate::name_of(w);
-    octets::is_name(w) & octets::same(s, &name.bytes)
+    if s.len() != 16 {
+        return false;
+    }
+    let mut i = 16;
+    let mut blanks = true;
+    let mut formed = true;
+    while 0 < i {
+        i -= 1;
+        let blank = s[i] == b' ';
+        formed = blank & blanks | is_letter(s[i]) & formed;
+        blanks = blank & blanks;
+    }
+    formed & (s[0] != b' ')
 }
 
 // Whether a name is one filled with blanks.

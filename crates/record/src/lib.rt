@@ -27,8 +27,23 @@ fn name_in(s: &[u8], at: usize) -> Name
     if s.len() <= at {
         return Name { bytes: bytes };
     }
-    octets::copy(&mut bytes, &s[at..]);
+    let end = at + 16;
+    if s.len() < end {
+        octets::copy(&mut bytes, &s[at..]);
+        return Name { bytes: bytes };
+    }
+    octets::copy(&mut bytes, &s[at..end]);
     Name { bytes: bytes }
+}
+
+// The number of k bytes from a place on, some of them past the end.
+fn number_past(s: &[u8], k: usize, at: usize) -> u64
+    requires { ⌜ k ≤ 8 ⌝ }
+    ensures { λ r. ⌜ r ≡ value-at (numeral k) at (now (s .entry)) ⌝ }
+{
+    let name = name_in(s, at);
+    let bytes = name.bytes;
+    octets::number(&bytes[..k])
 }
 
 // The number of k bytes from a place on.
@@ -37,9 +52,14 @@ fn number_in(s: &[u8], k: usize, at: usize) -> u64
     ensures { λ r. ⌜ r ≡ value-at (numeral k) at (now (s .entry)) ⌝ }
     ensures { λ r. ⌜ r < 256 ^ k ⌝ }
 {
-    let name = name_in(s, at);
-    let bytes = name.bytes;
-    octets::number(&bytes[..k])
+    if s.len() <= at {
+        return number_past(s, k, at);
+    }
+    let end = at + k;
+    if s.len() < end {
+        return number_past(s, k, at);
+    }
+    octets::number(&s[at..end])
 }
 
 // A number of one byte.

@@ -1,41 +1,37 @@
--- The first k of the 16 bytes.
-use mathlib.Core.Path.{_≡_, sym, ap, _∙_}
-use Prim.Native.Nat.{_^_, _%_}
+-- Cut out where it lies within the text.
+use mathlib.Core.Path.{_≡_, refl, ap, _∙_}
+use Prim.Native.Nat.{_+_, _^_, _%_}
 use native.Mathlib.Omega.{arith}
-use lib.ListN.{length, take}
-use lib.Seq.{length-take-le}
 use borrow.Author.Needs.{needs}
 use Rattle.octets.proofs.Comparing.{octets-lent}
 use Rattle.octets.specs.Text.{Text}
 use Rattle.octets.specs.Number.{number}
 use Rattle.octets.specs.Codec.{numeral, value-at}
-use Rattle.octets.proofs.Parts.{length-part, part-front, part-fits}
+use Rattle.octets.proofs.Parts.{part-cut, part-fits}
 use Rattle.octets.proofs.Codecs.{fits-read}
-use Rattle.partner.specs.declared.Name.{Name}
 use Rattle.record.proofs.number_in.Statement.{statement}
 use Rattle.record.proofs.number_in.Tie as tie
 
-array-share-prefix-bytes : tie.Need-array-share-prefix-bytes
-array-share-prefix-bytes c =
-    let a = c .before .before .before .args in
-    let e = ap (λ (n : Name). length (n .bytes)) (c .before .name-in .ensures) in
-    omega (arith, e, length-part 16 (a .at) (a .s .now))
-
-slice-aggregate-number : tie.Need-slice-aggregate-number
-slice-aggregate-number c =
-    let a = c .before .before .before .before .args in
-    let b = c .before .before .name-in .result .bytes in
-    let e = ap (λ (n : Name). length (n .bytes)) (c .before .before .name-in .ensures) in
-    sym (length-take-le (a .k) b (omega (arith, e, length-part 16 (a .at) (a .s .now))))
-
 returns : tie.Need-returns
 returns c =
-    let named = c .before .before .before in
-    let a = named .before .before .args in
+    let a = c .before .before .before .args in
+    let o = octets-lent (a .s .now) (c .before .before .shared-slice-known .given) in
+    let r = c .number-past .ensures in
+    (r, omega (arith, r, fits-read (numeral (a .k)) (a .at) (a .s .now) o))
+
+returns-2 : tie.Need-returns-2
+returns-2 c =
+    let a = c .before .before .before .before .args in
+    let o = octets-lent (a .s .now) (c .before .before .before .shared-slice-known .given) in
+    let r = c .number-past2 .ensures in
+    (r, omega (arith, r, fits-read (numeral (a .k)) (a .at) (a .s .now) o))
+
+returns-3 : tie.Need-returns-3
+returns-3 c =
+    let a = c .before .before .before .before .before .args in
     let s = a .s .now in
-    let o = octets-lent s (named .before .shared-slice-known .given) in
-    let f = part-front (a .k) 16 (a .at) s (omega arith) in
-    let e = ap (λ (n : Name). take (a .k) (n .bytes)) (named .name-in .ensures) ∙ f in
+    let o = octets-lent s (c .before .before .before .before .shared-slice-known .given) in
+    let e = part-cut (a .k) (a .at) (a .at + a .k) s refl (c .before .before .if2 .left) in
     let r : c .number .result ≡ value-at (numeral (a .k)) (a .at) s =
     c .number .ensures ∙ ap (λ (t : Text). number t % 2 ^ 64) e ∙ part-fits (a .k) (a .at) s o (omega arith) in
     (r, omega (arith, r, fits-read (numeral (a .k)) (a .at) s o))
@@ -45,7 +41,12 @@ number-in-spec =
     tie.close
     (tie.spec
     (λ c κs. search needs)
-    array-share-prefix-bytes
-    slice-aggregate-number
+    returns
+    (λ c. search needs)
     (λ c κs. search needs)
-    returns)
+    returns-2
+    (λ c. search needs)
+    (λ c. search needs)
+    (λ c. search needs)
+    (λ c κs. search needs)
+    returns-3)
