@@ -1,13 +1,12 @@
 -- One step of each loop over the records, and parts of an image.
-use mathlib.Core.Path.{_≡_, refl, sym, ap, _∙_}
+use mathlib.Core.Path.{_≡_, sym, ap, _∙_}
 use mathlib.Core.Bool.{Bool, true, false, cond, _&&_}
 use mathlib.Core.List.{List, [], _∷_}
-use Prim.Native.Nat.{ℕ, zero, suc, _+_, _-_, _≤_, _<_, min, max}
+use Prim.Native.Nat.{ℕ, zero, suc, _+_, _-_, _≤_, _<_, max}
 use native.Mathlib.Omega.{arith}
-use lib.Dec.{eqb, ltb, leb}
-use lib.ListN.{length, take, drop, getD, length-drop, drop-of-length-le}
-use lib.Seq.{take-all}
-use borrow.Author.Tests.{eq-eqb, ne-eqb, le-leb, lt-leb, leb-true, leb-false}
+use lib.Dec.{eqb, ltb}
+use lib.ListN.{length, drop, getD, drop-of-length-le}
+use borrow.Author.Tests.{eq-eqb, ne-eqb, le-leb, lt-leb}
 use Rattle.octets.specs.Text.{Text, same}
 use Rattle.partner.specs.Legal as rule
 use Rattle.image.specs.Image.{kinds, body, record-length, partner-size, front-size}
@@ -24,40 +23,6 @@ kind-within s at k h = go s at h
     go [] at h = absurd (let z : _≡_ {A = ℕ} 0 (suc k) = h in omega arith)
     go (x ∷ s) zero h = omega arith
     go (x ∷ s) (suc at) h = let i = go s at h in omega arith
-
-take-min : (k : ℕ) (l : Text) → take (min k (length l)) l ≡ take k l
-take-min k l = go (leb k (length l)) refl
-  where
-    go : (b : Bool) → leb k (length l) ≡ b → take (min k (length l)) l ≡ take k l
-    go true e =
-        let h = leb-true k (length l) e in
-        let i : min k (length l) ≡ k = omega arith in
-        ap (λ (j : ℕ). take j l) i
-    go false e =
-        let h = leb-false k (length l) e in
-        let i : min k (length l) ≡ length l = omega arith in
-        ap (λ (j : ℕ). take j l) i ∙ take-all (length l) l (omega arith) ∙ sym (take-all k l (omega arith))
-
-drop-min : (k : ℕ) (l : Text) → drop (min k (length l)) l ≡ drop k l
-drop-min k l = go (leb k (length l)) refl
-  where
-    go : (b : Bool) → leb k (length l) ≡ b → drop (min k (length l)) l ≡ drop k l
-    go true e =
-        let h = leb-true k (length l) e in
-        let i : min k (length l) ≡ k = omega arith in
-        ap (λ (j : ℕ). drop j l) i
-    go false e =
-        let h = leb-false k (length l) e in
-        let i : length l ≤ min k (length l) = omega arith in
-        let j : length l ≤ k = omega arith in
-        drop-of-length-le l i ∙ sym (drop-of-length-le l j)
-
-pub part-of : (s : Text) (at k : ℕ) → take (min k (length s - min at (length s))) (drop (min at (length s)) s)
-    ≡ take k (drop at s)
-part-of s at k =
-    let r = drop (min at (length s)) s in
-    ap (λ (n : ℕ). take (min k n) r) (sym (length-drop (min at (length s)) s)) ∙ take-min k r
-    ∙ ap (take k) (drop-min at s)
 
 -- behind the end nothing is left
 pub past-end : (s : Text) (at : ℕ) → length s ≤ at → drop at s ≡ drop (at + 1) s

@@ -12,6 +12,7 @@ ghost use Rattle.image.specs.Image as images;
 ghost use Rattle.image.specs.Places as places;
 ghost use Rattle.image.specs.Pass as pass;
 ghost use Rattle.image.specs.Results as results;
+use octets::Span;
 use partner::Entry;
 use partner::Name;
 
@@ -33,7 +34,8 @@ pub const LARGEST: usize = FRONT_SIZE + SLOTS * PARTNER_SIZE;
 pub fn own_identity(image: &[u8]) -> &[u8]
     ensures { λ r. ⌜ now r ≡ places.own-in (now (image .entry)) ⌝ }
 {
-    records::part(image, 1, 16)
+    let own = Span { at: 1, length: 16 };
+    octets::part(image, own)
 }
 
 // ---- slots

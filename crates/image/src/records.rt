@@ -1,7 +1,7 @@
 // Records by the byte of the image where they stand: read, looked for, put back, added and taken out.
 ghost use mathlib.Core.Path.{_≡_};
 ghost use mathlib.Core.List.{_∷_};
-ghost use Prim.Native.Nat.{_+_, _*_, _<_, _≤_, min};
+ghost use Prim.Native.Nat.{_+_, _*_, _<_, _≤_};
 ghost use lib.ListN.{length, take, drop, getD};
 ghost use Rattle.octets.specs.Text.{same};
 ghost use Rattle.octets.specs.Number.{number};
@@ -12,14 +12,8 @@ ghost use Rattle.image.specs.Places as places;
 ghost use Rattle.image.specs.Pass as pass;
 ghost use Rattle.image.specs.Results as results;
 use crate::kinds;
+use octets::Span;
 use partner::Entry;
-
-// The smaller of the two.
-fn smaller(a: usize, b: usize) -> usize
-    ensures { λ r. ⌜ r ≡ min a b ⌝ }
-{
-    if a <= b { a } else { b }
-}
 
 // The byte at a place, 0 past the end.
 pub(crate) fn byte_at(image: &[u8], at: usize) -> u8
@@ -28,25 +22,22 @@ pub(crate) fn byte_at(image: &[u8], at: usize) -> u8
     if at < image.len() { image[at] } else { 0 }
 }
 
-// The k bytes from a place on, as many as there are.
-pub(crate) fn part(image: &[u8], at: usize, k: usize) -> &[u8]
-    ensures { λ r. ⌜ now r ≡ take k (drop at (now (image .entry))) ⌝ }
-{
-    let from = smaller(at, image.len());
-    let count = smaller(k, image.len() - from);
-    let to = from + count;
-    &image[from..to]
-}
-
 // The entry of the record at a place.
 pub(crate) fn entry_at(image: &[u8], at: usize) -> Entry
     ensures { λ r. ⌜ r ≡ places.entry-at at (now (image .entry)) ⌝ }
 {
     if at < image.len() {
-        record::entry_in(part(image, at + 1, record::SIZE))
-    } else {
-        record::entry_in(part(image, at, record::SIZE))
+        let body = Span {
+            at: at + 1,
+            length: record::SIZE,
+        };
+        return record::entry_in(octets::part(image, body));
     }
+    let past = Span {
+        at,
+        length: record::SIZE,
+    };
+    record::entry_in(octets::part(image, past))
 }
 
 // ---- identities as two numbers

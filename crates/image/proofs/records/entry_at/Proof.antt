@@ -4,6 +4,7 @@ use Prim.Native.Nat.{ℕ}
 use borrow.Author.Needs.{needs}
 use lib.ListN.{take}
 use Rattle.octets.specs.Text.{Text}
+use Rattle.octets.specs.Part.{part}
 use Rattle.partner.specs.Record.{entry-in, entry-size}
 use Rattle.image.specs.Places.{entry-at}
 use Rattle.image.proofs.Steps.{past-end}
@@ -11,11 +12,11 @@ use Rattle.image.proofs.records.entry_at.Statement.{statement}
 use Rattle.image.proofs.records.entry_at.Tie as tie
 
 returns : tie.Need-returns
-unfolding entry-at
+unfolding entry-at part
 returns c = c .entry-in .ensures ∙ ap entry-in (c .before .part .ensures)
 
 returns-2 : tie.Need-returns-2
-unfolding entry-at
+unfolding entry-at part
 returns-2 c =
     let im : Text = c .before .before .before .before .args .image .now in
     let at : ℕ = c .before .before .before .before .args .at in
@@ -29,7 +30,7 @@ entry-at-spec =
     (λ c. search needs)
     (λ c κs. search needs)
     (λ c κs. search needs)
-    (λ c κs. search needs)
-    (λ c κs. search needs)
     returns
+    (λ c κs. search needs)
+    (λ c κs. search needs)
     returns-2)
