@@ -2,7 +2,7 @@
 use mathlib.Core.Path.{_≡_, refl, sym, ap, _∙_}
 use mathlib.Core.Bool.{Bool, true, not, _&&_}
 use mathlib.Core.List.{[], _∷_, _++_, append-assoc}
-use mathlib.Core.Option.{Option, none, some}
+use mathlib.Core.Option.{none, some}
 use Prim.Native.Nat.{ℕ}
 use Prim.Native.Char.{code}
 use lib.Dec.{eqb}
@@ -47,11 +47,6 @@ field-chars f a k =
     all-append text-char (tag f) (contents f .print a) (tag-chars f)
     (ap (all text-char) (b .text) ∙ all-append text-char (b .front) (blank ∷ []) i refl)
 
-pub maybe-chars : (f : Field) (o : Option (Contents f)) → maybe-legal (field f) o ≡ true
-    → all text-char (maybe-print (field f) o) ≡ true
-maybe-chars f none k = refl
-maybe-chars f (some a) k = field-chars f a k
-
 -- ---- rows: what ends a row stands after its fields, and does not decide what is legal
 
 more : (a b c d : Text) → b ≡ c ++ d → a ++ b ≡ (a ++ c) ++ d
@@ -67,18 +62,26 @@ row-legal [] end v = refl
 row-legal (one f ∷ rs) end v = ap (λ (b : Bool). field f .legal (v .0) && b) (row-legal rs end (v .1))
 row-legal (opt f ∷ rs) end v = ap (λ (b : Bool). maybe-legal (field f) (v .0) && b) (row-legal rs end (v .1))
 
+-- a law of the text of a row, from one of each field's text
+pub row-made : (P : Row → Text → Type 0) → P [] []
+    → ((f : Field) (a : Contents f) → field f .legal a ≡ true → (rs : Row) (t : Text) → P rs t
+    → P (one f ∷ rs) (field f .print a ++ t) × P (opt f ∷ rs) (field f .print a ++ t))
+    → ((f : Field) (rs : Row) (t : Text) → P rs t → P (opt f ∷ rs) t)
+    → (rs : Row) (v : Values rs) → fields rs [] .legal v ≡ true → P rs (fields rs [] .print v)
+row-made P z s n [] v k = z
+row-made P z s n (one f ∷ rs) (a, v) k =
+    let h = and-true (field f .legal a) (fields rs [] .legal v) k in
+    s f a (h .0) rs _ (row-made P z s n rs v (h .1)) .0
+row-made P z s n (opt f ∷ rs) (none, v) k = n f rs _ (row-made P z s n rs v k)
+row-made P z s n (opt f ∷ rs) (some a, v) k =
+    let h = and-true (field f .legal a) (fields rs [] .legal v) k in
+    s f a (h .0) rs _ (row-made P z s n rs v (h .1)) .1
+
 pub row-chars : (rs : Row) (v : Values rs) → fields rs [] .legal v ≡ true
     → all text-char (fields rs [] .print v) ≡ true
-row-chars [] v k = refl
-row-chars (one f ∷ rs) v k =
-    let h = and-true (field f .legal (v .0)) (fields rs [] .legal (v .1)) k in
-    all-append text-char (field f .print (v .0)) (fields rs [] .print (v .1)) (field-chars f (v .0) (h .0))
-    (row-chars rs (v .1) (h .1))
-row-chars (opt f ∷ rs) v k =
-    let h = and-true (maybe-legal (field f) (v .0)) (fields rs [] .legal (v .1)) k in
-    all-append text-char (maybe-print (field f) (v .0)) (fields rs [] .print (v .1))
-    (maybe-chars f (v .0) (h .0))
-    (row-chars rs (v .1) (h .1))
+row-chars =
+    row-made (λ rs t. all text-char t ≡ true) refl
+    (λ f a k rs t h. let e = all-append text-char (field f .print a) t (field-chars f a k) h in (e, e)) (λ f rs t h. h)
 
 -- ---- bodies and the message
 

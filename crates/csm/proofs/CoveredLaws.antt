@@ -1,9 +1,9 @@
 -- What a MAC covers is the same from the text as from its reading, and ends 15 bytes before the text does.
 use mathlib.Core.Path.{_≡_, refl, sym, ap, _∙_, subst}
-use mathlib.Core.Bool.{Bool, true, false, cond, not, _&&_, true≢false}
+use mathlib.Core.Bool.{Bool, true, false, cond, not, _&&_}
 use mathlib.Core.List.{[], _∷_, _++_, append-assoc, append-nil}
-use mathlib.Core.Option.{Option, none, some}
-use Prim.Native.Nat.{ℕ, _-_, _/_, _%_}
+use mathlib.Core.Option.{some}
+use Prim.Native.Nat.{ℕ, _-_}
 use native.Mathlib.Omega.{arith}
 use lib.Dec.{eqb}
 use lib.ListN.{length, take, drop, length-append}
@@ -11,18 +11,18 @@ use lib.Seq.{take-at}
 use borrow.Author.Tests.{eqb-true, eqb-false, not-true, ne-eqb}
 use Rattle.octets.specs.Text.{Text, ascii, blank, free, starts}
 use Rattle.octets.proofs.Comparing.{both as and-true}
-use Rattle.csm.specs.Format.{maybe-legal, maybe-print}
-use Rattle.csm.specs.Fields.{tag, field, contents, hex-text}
-use Rattle.csm.specs.Fields.{Field, Contents, MCL, RCV, ORG, SVR, KD, IV, EDK, CTP, CTR, ERF, MAC, EDC}
-use Rattle.csm.specs.Message.{Row, one, opt, Values, fields, head-row, head-of, head, closed}
+use Rattle.csm.specs.Format.{maybe-legal}
+use Rattle.csm.specs.Fields.{tag, field, contents}
+use Rattle.csm.specs.Fields.{Field, Contents, KD, IV, EDK, CTP, MAC}
+use Rattle.csm.specs.Message.{Row, one, opt, Values, fields, head-row, head-of, head}
 use Rattle.csm.specs.Message.{print-body, legal-body, message, fits}
 use Rattle.csm.specs.Message.{Body, rsi, ksm, rsm, esm, option, Reading, legal, read, print}
 use Rattle.csm.specs.Covered.{before, covered, covered-part, covered-fields, keyed-row, keyed-values}
 use Rattle.csm.specs.Covered.{mac-of}
-use Rattle.csm.proofs.TextLaws.{some-inj, none-some, all-free}
+use Rattle.csm.proofs.TextLaws.{some-inj, none-some, all-free, clash, clash-starts}
 use Rattle.csm.proofs.FieldLaws.{contents-char, contents-sound}
 use Rattle.csm.proofs.MessageLaws.{read-back}
-use Rattle.csm.proofs.CharLaws.{row-end, join}
+use Rattle.csm.proofs.CharLaws.{row-end, row-made, join}
 
 abbrev pub MAC/ : Text
 MAC/ = ascii "MAC/"
@@ -70,88 +70,42 @@ word-passed (x ∷ w) k s =
 
 -- ---- every field but MAC is passed, and so is a row of such
 
-abbrev pub not-mac : Field → Bool
-not-mac MAC = false
-not-mac MCL = true
-not-mac RCV = true
-not-mac ORG = true
-not-mac SVR = true
-not-mac KD = true
-not-mac IV = true
-not-mac EDK = true
-not-mac CTP = true
-not-mac CTR = true
-not-mac ERF = true
-not-mac EDC = true
+-- `MAC/` begins nowhere in w, which is computed
+abbrev pub clear : Text → Bool
+clear [] = true
+clear (x ∷ w) = clash MAC/ (x ∷ w) && clear w
 
-tag-passed : (f : Field) → not-mac f ≡ true → Passed (tag f)
-tag-passed MAC c = absurd (true≢false (sym c))
-tag-passed MCL c = λ s. refl
-tag-passed RCV c = λ s. refl
-tag-passed ORG c = λ s. refl
-tag-passed SVR c = λ s. refl
-tag-passed KD c = λ s. refl
-tag-passed IV c = λ s. refl
-tag-passed EDK c = λ s. refl
-tag-passed CTP c = λ s. refl
-tag-passed CTR c = λ s. refl
-tag-passed ERF c = λ s. refl
-tag-passed EDC c = λ s. refl
+clear-passed : (w : Text) → clear w ≡ true → Passed w
+clear-passed [] k s = refl
+clear-passed (x ∷ w) k s =
+    let h = and-true (clash MAC/ (x ∷ w)) (clear w) k in
+    before-step x (w ++ s) (clash-starts MAC/ (x ∷ w) s (h .0)) ∙ ap (λ (t : Text). x ∷ t) (clear-passed w (h .1) s)
 
-pub field-passed : (f : Field) → not-mac f ≡ true → (a : Contents f) → field f .legal a ≡ true
+pub field-passed : (f : Field) → clear (tag f) ≡ true → (a : Contents f) → field f .legal a ≡ true
     → Passed (field f .print a)
 field-passed f c a k =
     let b = contents-sound f .blanked a k in
-    passed-append (tag f) (contents f .print a) (tag-passed f c)
+    passed-append (tag f) (contents f .print a) (clear-passed (tag f) c)
     (subst Passed (sym (b .text)) (word-passed (b .front) (all-free contents-char 47 refl (b .front) (b .chars))))
-
-pub maybe-passed : (f : Field) → not-mac f ≡ true → (o : Option (Contents f)) → maybe-legal (field f) o ≡ true
-    → Passed (maybe-print (field f) o)
-maybe-passed f c none k = λ s. refl
-maybe-passed f c (some a) k = field-passed f c a k
 
 abbrev pub macless : Row → Bool
 macless [] = true
-macless (one f ∷ rs) = not-mac f && macless rs
-macless (opt f ∷ rs) = not-mac f && macless rs
+macless (one f ∷ rs) = clear (tag f) && macless rs
+macless (opt f ∷ rs) = clear (tag f) && macless rs
 
-pub row-passed : (rs : Row) → macless rs ≡ true
-    → (v : Values rs) → fields rs [] .legal v ≡ true → Passed (fields rs [] .print v)
-row-passed [] c v k = λ s. refl
-row-passed (one f ∷ rs) c v k =
-    let h = and-true (not-mac f) (macless rs) c in
-    let i = and-true (field f .legal (v .0)) (fields rs [] .legal (v .1)) k in
-    passed-append (field f .print (v .0)) (fields rs [] .print (v .1))
-    (field-passed f (h .0) (v .0) (i .0)) (row-passed rs (h .1) (v .1) (i .1))
-row-passed (opt f ∷ rs) c v k =
-    let h = and-true (not-mac f) (macless rs) c in
-    let i = and-true (maybe-legal (field f) (v .0)) (fields rs [] .legal (v .1)) k in
-    passed-append (maybe-print (field f) (v .0)) (fields rs [] .print (v .1))
-    (maybe-passed f (h .0) (v .0) (i .0)) (row-passed rs (h .1) (v .1) (i .1))
+pub row-passed : (rs : Row) (v : Values rs) → fields rs [] .legal v ≡ true → macless rs ≡ true
+    → Passed (fields rs [] .print v)
+row-passed =
+    row-made (λ rs t. macless rs ≡ true → Passed t) (λ c s. refl)
+    (λ f a k rs t h.
+    let on : macless (one f ∷ rs) ≡ true → Passed (field f .print a ++ t) = λ c.
+    let i = and-true (clear (tag f)) (macless rs) c in
+    passed-append (field f .print a) t (field-passed f (i .0) a k) (h (i .1)) in
+    (on, on)) (λ f rs t h c. h (and-true (clear (tag f)) (macless rs) c .1))
 
--- ---- a row, and MAC after it
-
+-- MAC's field and the end
 abbrev pub mac-end : ℕ → Text
 mac-end m = field MAC .print m ++ ascii ")"
-
-abbrev pub and-mac : Row → Row
-and-mac [] = one MAC ∷ []
-and-mac (i ∷ rs) = i ∷ and-mac rs
-
-abbrev pub with-mac : (rs : Row) → Values rs → ℕ → Values (and-mac rs)
-with-mac [] v m = (m, tt)
-with-mac (one f ∷ rs) v m = (v .0, with-mac rs (v .1) m)
-with-mac (opt f ∷ rs) v m = (v .0, with-mac rs (v .1) m)
-
-pub mac-legal : (rs : Row) (v : Values rs) (m : ℕ)
-    → closed (and-mac rs) .legal (with-mac rs v m) ≡ true → fields rs [] .legal v ≡ true
-mac-legal [] v m k = refl
-mac-legal (one f ∷ rs) v m k =
-    let h = and-true (field f .legal (v .0)) (closed (and-mac rs) .legal (with-mac rs (v .1) m)) k in
-    rw (h .0) (mac-legal rs (v .1) m (h .1))
-mac-legal (opt f ∷ rs) v m k =
-    let h = and-true (maybe-legal (field f) (v .0)) (closed (and-mac rs) .legal (with-mac rs (v .1) m)) k in
-    rw (h .0) (mac-legal rs (v .1) m (h .1))
 
 -- ---- a body that has a MAC: the covered fields, MAC's field, `)`
 
@@ -167,7 +121,12 @@ sealed-body (option c w) m e = absurd (none-some m e)
 pub sealed-passed : (b : Body) (m : ℕ) → mac-of b ≡ some m → legal-body b ≡ true → Passed (covered-fields b)
 sealed-passed (rsi r) m e k = absurd (none-some m e)
 sealed-passed (ksm r) m e k =
-    row-passed keyed-row refl (keyed-values r) (mac-legal keyed-row (keyed-values r) (r .mac) k)
+    let first = and-true (field KD .legal (r .kd)) _ k in
+    let second = and-true (maybe-legal (field KD) (r .second)) _ (first .1) in
+    let iv = and-true (maybe-legal (field IV) (r .iv)) _ (second .1) in
+    let edk = and-true (maybe-legal (field EDK) (r .edk)) _ (iv .1) in
+    let ctp = and-true (field CTP .legal (r .ctp)) _ (edk .1) in
+    row-passed keyed-row (keyed-values r) (rw (first .0, second .0, iv .0, edk .0, ctp .0)) refl
 sealed-passed (rsm r) m e k = λ s. refl
 sealed-passed (esm r) m e k = absurd (none-some m e)
 sealed-passed (option c w) m e k = absurd (none-some m e)
@@ -191,16 +150,11 @@ covered-agrees t r m e s =
     let l = and-true (head .legal (head-of r)) (legal-body (r .body)) (k .0) in
     let h = fields head-row [] .print (head-of r) in
     let c = covered-fields (r .body) in
-    let p = passed-append h c (row-passed head-row refl (head-of r) (l .0))
+    let p = passed-append h c (row-passed head-row (head-of r) (l .0) refl)
     (sealed-passed (r .body) m s (l .1)) in
     ap covered (u .1 ∙ sealed-text r m s) ∙ p (mac-end m) ∙ append-nil (h ++ c)
 
 -- `MAC/`, four hex digits, blank, four hex digits, blank, `)`: 15 bytes
-pub mac-end-text : (m : ℕ)
-    → mac-end m
-    ≡ MAC/ ++ (hex-text 4 (m / 65536) ++ (blank ∷ (hex-text 4 (m % 65536) ++ (blank ∷ ascii ")"))))
-mac-end-text m = refl
-
 pub mac-end-length : (m : ℕ) → length (mac-end m) ≡ 15
 mac-end-length m = refl
 

@@ -1,13 +1,12 @@
 -- Every field is lawful: the guess of each kind of contents is right, and they hold no slash and end at
 -- their blank.
-use mathlib.Core.Path.{_≡_, refl, sym, ap, _∙_, subst}
+use mathlib.Core.Path.{_≡_, refl, sym, ap, _∙_}
 use mathlib.Core.Bool.{Bool, true, false, not, _&&_, _||_}
-use mathlib.Core.Logic.{⊎-elim}
-use mathlib.Core.List.{[], _∷_, _++_, append-assoc, append-nil}
+use mathlib.Core.List.{List, [], _∷_, _++_, append-assoc, append-nil}
 use mathlib.Core.Option.{Option, none, some}
-use Prim.Native.Nat.{ℕ, zero, suc, _/_, _%_, _^_, _≤_, _<_}
+use Prim.Native.Nat.{ℕ, _/_, _%_, _^_, _≤_, _<_}
 use native.Mathlib.Omega.{arith}
-use native.Mathlib.Nat.{eq-or-lt-of-le, le-of-suc-le-suc, not-suc-le-zero, div-add-mod'}
+use native.Mathlib.Nat.{div-add-mod'}
 use lib.Arith.{digits-div, digits-mod}
 use lib.Dec.{eqb, ltb}
 use lib.ListN.{length}
@@ -23,7 +22,8 @@ use Rattle.csm.specs.Fields.{tag, contents, field}
 use Rattle.csm.specs.Fields.{Class, RSI, KSM, RSM, ESM, DSM, ERS, RFS, RTR}
 use Rattle.csm.specs.Fields.{Field, MCL, RCV, ORG, SVR, KD, IV, EDK, CTP, CTR, ERF, MAC, EDC}
 use Rattle.csm.specs.Message.{text-char}
-use Rattle.csm.proofs.TextLaws.{within-true, true-within, all-append, all-weaker, all-free}
+use Rattle.csm.proofs.TextLaws.{within-true, true-within, all-append, all-weaker, all-free, below}
+pub use Rattle.csm.proofs.TextLaws.{below-at}
 use Rattle.csm.proofs.FormatLaws.{Right, Lawful, upto-lawful, pre-lawful, both-lawful, as-form-lawful}
 use Rattle.csm.proofs.NumberLaws.{hex-number, hex-run, decimal-number, decimal-counted}
 
@@ -79,20 +79,8 @@ count-right = record {
       all-run-word 0 (omega arith) (decimal 7 n) (c .digits);
 }
 
--- ---- a test on each number below n, computed once
+-- ---- a word of numbers below n, each tried once
 
-abbrev pub below : ℕ → (ℕ → Bool) → Bool
-below zero f = true
-below (suc n) f = f n && below n f
-
-pub below-at : (n : ℕ) (f : ℕ → Bool) → below n f ≡ true → (i : ℕ) → i < n → f i ≡ true
-below-at zero f e i h = absurd (not-suc-le-zero h)
-below-at (suc n) f e i h =
-    let k = and-true (f n) (below n f) e in
-    ⊎-elim (λ q. subst (λ (j : ℕ). f j ≡ true) (sym q) (k .0)) (λ l. below-at n f (k .1) i l)
-    (eq-or-lt-of-le (le-of-suc-le-suc h))
-
--- a word of numbers below n
 pub table-right : (n : ℕ) (c : Word ℕ) → ((i : ℕ) → c .legal i ≡ true → i < n)
     → below n (λ i. eqb (c .guess (c .text i)) i) ≡ true → below n (λ i. all word-char (c .text i)) ≡ true
     → Right word-char c
@@ -146,33 +134,38 @@ name-right none k = refl
 name-right (some []) k = cc
 name-right (some (x ∷ w)) k = refl
 
--- the pieces that the subfields leave behind the key k
-abbrev pub Pieces : Text → Bool → Option Text → Option Text → Type 0
-Pieces k p i j = kd-guess (split (k ++ subfields p i j))
-    ≡ record { key = numeral 16 0 k; p = p; idk1 = i; idk2 = j }
+-- the pieces behind the key
+abbrev pub behind : Bool → Option Text → Option Text → List Text
+behind p i (some w) = mark p ∷ named i ∷ w ∷ []
+behind p (some v) none = mark p ∷ v ∷ []
+behind true none none = ascii "P" ∷ []
+behind false none none = []
 
-pieces : (k : Text) → free dot k ≡ true → (p : Bool) (i j : Option Text) → legal-name i ≡ true
-    → legal-name j ≡ true → Pieces k p i j
-pieces k f p i (some w) a b =
+pub split-kd : (k : Text) → free dot k ≡ true → (p : Bool) (i j : Option Text) → legal-name i ≡ true
+    → legal-name j ≡ true → split (k ++ subfields p i j) ≡ k ∷ behind p i j
+split-kd k f p i (some w) a b =
     rw (
       split-more k (mark p ++ (sub (named i) ++ sub w)) f,
       split-more (mark p) (named i ++ sub w) (mark-dotless p),
       split-more (named i) w (name-dotless i a),
       split-one w (name-dotless (some w) b),
-      mark-right p,
-      name-right i a,
-      name-right (some w) b,
     )
-pieces k f p (some v) none a b =
+split-kd k f p (some v) none a b =
     rw (
       split-more k (mark p ++ sub v) f,
       split-more (mark p) v (mark-dotless p),
       split-one v (name-dotless (some v) a),
-      mark-right p,
-      name-right (some v) a,
     )
-pieces k f true none none a b = rw (split-more k (ascii "P") f)
-pieces k f false none none a b = rw (append-nil k, split-one k f)
+split-kd k f true none none a b = rw (split-more k (ascii "P") f)
+split-kd k f false none none a b = rw (append-nil k, split-one k f)
+
+-- what they are guessed to be
+guessed : (k : Text) (p : Bool) (i j : Option Text) → legal-name i ≡ true → legal-name j ≡ true
+    → kd-guess (k ∷ behind p i j) ≡ record { key = numeral 16 0 k; p = p; idk1 = i; idk2 = j }
+guessed k p i (some w) a b = rw (mark-right p, name-right i a, name-right (some w) b)
+guessed k p (some v) none a b = rw (mark-right p, name-right (some v) a)
+guessed k true none none a b = refl
+guessed k false none none a b = refl
 
 mark-word : (p : Bool) → all word-char (sub (mark p)) ≡ true
 mark-word true = refl
@@ -199,8 +192,8 @@ keyed-right d = record {
       let i = and-true (legal-name (r .idk1)) (legal-name (r .idk2)) (h .1) in
       let n : numeral 16 0 (hex-text d (r .key)) ≡ r .key = hex-right d .right (r .key) (h .0) in
       let put : ℕ → Kd = λ (n : ℕ). record { key = n; p = r .p; idk1 = r .idk1; idk2 = r .idk2 } in
-      pieces (hex-text d (r .key)) (hex-dotless d (r .key)) (r .p) (r .idk1) (r .idk2) (i .0) (i .1)
-      ∙ ap put n;
+      ap kd-guess (split-kd (hex-text d (r .key)) (hex-dotless d (r .key)) (r .p) (r .idk1) (r .idk2) (i .0) (i .1))
+      ∙ guessed (hex-text d (r .key)) (r .p) (r .idk1) (r .idk2) (i .0) (i .1) ∙ ap put n;
   chars = λ r k.
       let h = and-true (hex d .legal (r .key)) (legal-name (r .idk1) && legal-name (r .idk2)) k in
       let i = and-true (legal-name (r .idk1)) (legal-name (r .idk2)) (h .1) in
@@ -210,28 +203,23 @@ keyed-right d = record {
 
 -- ---- MCL
 
-pub mcl-right : Right word-char mcl
-mcl-right = record { right = λ c k. right c; chars = λ c k. word c }
-  where
-    right : (c : Class) → mcl .guess (mcl .text c) ≡ c
-    right RSI = refl
-    right KSM = refl
-    right RSM = refl
-    right ESM = refl
-    right DSM = refl
-    right ERS = refl
-    right RFS = refl
-    right RTR = refl
+-- each class has a name of three characters, which is read as it
+pub class-named : (c : Class)
+    → (mcl .guess (class-text c) ≡ c) × (all word-char (class-text c) ≡ true) × (length (class-text c) ≡ 3)
+class-named RSI = (refl, refl, refl)
+class-named KSM = (refl, refl, refl)
+class-named RSM = (refl, refl, refl)
+class-named ESM = (refl, refl, refl)
+class-named DSM = (refl, refl, refl)
+class-named ERS = (refl, refl, refl)
+class-named RFS = (refl, refl, refl)
+class-named RTR = (refl, refl, refl)
 
-    word : (c : Class) → all word-char (class-text c) ≡ true
-    word RSI = refl
-    word KSM = refl
-    word RSM = refl
-    word ESM = refl
-    word DSM = refl
-    word ERS = refl
-    word RFS = refl
-    word RTR = refl
+pub mcl-right : Right word-char mcl
+mcl-right = record { right = λ c k. class-named c .0; chars = λ c k. class-named c .1 }
+
+pub class-size : (c : Class) → length (class-text c) ≡ 3
+class-size c = class-named c .2
 
 -- ---- contents: lawful, and their text is a blank after bytes that are no slash
 

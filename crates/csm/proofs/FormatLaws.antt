@@ -6,7 +6,7 @@ use mathlib.Core.List.{[], _∷_, _++_, append-assoc, append-nil}
 use mathlib.Core.Option.{Option, none, some}
 use Prim.Native.Nat.{ℕ, suc, _<_}
 use lib.ListN.{length, getD, take, drop}
-use Rattle.octets.specs.Text.{Text, all, free, same, starts}
+use Rattle.octets.specs.Text.{Text, all, free, same}
 use Rattle.octets.proofs.Comparing.{both as and-true, same-equal as same-true, same-self as same-refl}
 use Rattle.csm.specs.Format.{Word, Format, bind, after, until, value, upto, just, pre, both}
 use Rattle.csm.specs.Format.{maybe, maybe-legal, maybe-print, maybe-read, as-form, such-that, at-end}
@@ -178,16 +178,7 @@ module _ {A : Type 0} {c : Format A} (l : Lawful c) where
           (subst (λ (x : A). c .legal x ≡ true) i k, q ∙ append-nil (c .print b) ∙ ap (c .print) i)
       go b (x ∷ t) e k q = absurd (none-some _ e)
 
--- ---- for programs: a tag is a test and a part, and a piece ends at a place
-
-pub pre-read : {A : Type 0} (w : Text) (c : Format A) (s : Text)
-    → pre w c .read s ≡ cond (starts w s) (c .read (drop (length w) s)) none
-pre-read {A} w c s = go (starts w s)
-  where
-    go : (b : Bool)
-        → bind (cond b (some (drop (length w) s)) none) (c .read) ≡ cond b (c .read (drop (length w) s)) none
-    go true = refl
-    go false = refl
+-- ---- for programs: a piece ends at a place
 
 pub upto-read : {A : Type 0} (x : ℕ) (c : Word A) (s : Text) (n : ℕ) → n < length s
     → free x (take n s) ≡ true → getD s n 0 ≡ x

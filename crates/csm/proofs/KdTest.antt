@@ -6,12 +6,12 @@ use mathlib.Core.Option.{Option, none, some}
 use Prim.Native.Nat.{ℕ}
 use lib.Dec.{eqb}
 use borrow.Author.Tests.{eqb-true}
-use Rattle.octets.specs.Text.{Text, ascii, dot, free, same, is-run, is-name}
+use Rattle.octets.specs.Text.{Text, ascii, dot, same, is-run, is-name}
 use Rattle.octets.proofs.Comparing.{both as and-true, same-equal as same-true}
 use Rattle.csm.specs.Format.{value}
-use Rattle.csm.specs.Fields.{numeral, hex-text, hex, Kd, sub, mark, named, subfields, legal-name, onto}
+use Rattle.csm.specs.Fields.{numeral, hex-text, hex, Kd, mark, named, legal-name, onto}
 use Rattle.csm.specs.Fields.{split, nonempty, kd-guess, kd}
-use Rattle.csm.proofs.FieldLaws.{split-one, split-more, hex-dotless, mark-dotless, name-dotless}
+use Rattle.csm.proofs.FieldLaws.{behind, split-kd, hex-dotless}
 use Rattle.csm.proofs.WordTests.{value-test, hex-forth, hex-passes}
 
 abbrev pub is-mark : Text → Bool
@@ -50,7 +50,7 @@ onto-pieced : (x : ℕ) (l : List Text) → Pieced (onto x l)
 onto-pieced x [] = (x ∷ [], [], refl)
 onto-pieced x (p ∷ ps) = (x ∷ p, ps, refl)
 
-split-pieced : (w : Text) → Pieced (split w)
+pub split-pieced : (w : Text) → Pieced (split w)
 split-pieced [] = ([], [], refl)
 split-pieced (x ∷ w) = go (eqb x dot)
   where
@@ -133,36 +133,20 @@ name-passes none k = refl
 name-passes (some []) k = refl
 name-passes (some (x ∷ w)) k = k
 
-subs-pass : (k : Text) → is-run 70 16 16 k ≡ true → free dot k ≡ true → (p : Bool) (i j : Option Text)
-    → legal-name i ≡ true → legal-name j ≡ true → is-kd (split (k ++ subfields p i j)) ≡ true
-subs-pass k q f p i (some w) a b =
-    rw (
-      split-more k (mark p ++ (sub (named i) ++ sub w)) f,
-      split-more (mark p) (named i ++ sub w) (mark-dotless p),
-      split-more (named i) w (name-dotless i a),
-      split-one w (name-dotless (some w) b),
-      q,
-      mark-passes p,
-      name-passes i a,
-    ) b
-subs-pass k q f p (some v) none a b =
-    rw (
-      split-more k (mark p ++ sub v) f,
-      split-more (mark p) v (mark-dotless p),
-      split-one v (name-dotless (some v) a),
-      q,
-      mark-passes p,
-    ) a
-subs-pass k q f true none none a b = rw (split-more k (ascii "P") f, q)
-subs-pass k q f false none none a b = rw (append-nil k, split-one k f, q)
+subs-pass : (p : Bool) (i j : Option Text) → legal-name i ≡ true → legal-name j ≡ true
+    → is-subs (behind p i j) ≡ true
+subs-pass p i (some w) a b = rw (mark-passes p, name-passes i a) b
+subs-pass p (some v) none a b = rw (mark-passes p) a
+subs-pass true none none a b = refl
+subs-pass false none none a b = refl
 
 pub kd-passes : (r : Kd) → Legal r → is-kd (split (kd .text r)) ≡ true
 kd-passes r e =
     let h = and-true (hex 16 .legal (r .key)) (legal-name (r .idk1) && legal-name (r .idk2)) e in
     let i = and-true (legal-name (r .idk1)) (legal-name (r .idk2)) (h .1) in
-    subs-pass (hex-text 16 (r .key)) (hex-passes 16 (r .key)) (hex-dotless 16 (r .key))
-    (r .p) (r .idk1)
-    (r .idk2) (i .0) (i .1)
+    let s = subs-pass (r .p) (r .idk1) (r .idk2) (i .0) (i .1) in
+    ap is-kd (split-kd (hex-text 16 (r .key)) (hex-dotless 16 (r .key)) (r .p) (r .idk1) (r .idk2) (i .0) (i .1))
+    ∙ (λ x. hex-passes 16 (r .key) x && s x)
 
 pub kd-value : (w : Text) → value kd w ≡ cond (is-kd (split w)) (some (kd-guess (split w))) none
 kd-value = value-test kd (λ w. is-kd (split w))

@@ -13,7 +13,6 @@ use Rattle.octets.proofs.Comparing.{both as and-true}
 use Rattle.csm.specs.Format.{maybe-legal, maybe-print}
 use Rattle.csm.specs.Fields.{hex, hex-text, decimal, svr, erf, Kd, sub, mark, named, subfields}
 use Rattle.csm.specs.Fields.{legal-name, kd, class-text, tag, contents, Contents, field}
-use Rattle.csm.specs.Fields.{Class, RSI, KSM, RSM, ESM, DSM, ERS, RFS, RTR}
 use Rattle.csm.specs.Fields.{Field, MCL, RCV, ORG, SVR, KD, IV, EDK, CTP, CTR, ERF, MAC, EDC}
 use Rattle.csm.specs.Message.{Row, one, opt, Values, fields, closed, head-row, rsi-row, ksm-row, rsm-row}
 use Rattle.csm.specs.Message.{esm-row, rsi-values, ksm-values, rsm-values, esm-values, counts-with-P}
@@ -21,8 +20,8 @@ use Rattle.csm.specs.Message.{Body, rsi, ksm, rsm, esm, option, Reading,
 use Rattle.csm.specs.Message.{head, head-of, message, legal, print}
 use Rattle.csm.proofs.TextLaws.{within-true, true-within}
 use Rattle.csm.proofs.NumberLaws.{hex-length, decimal-counted}
-use Rattle.csm.proofs.FieldLaws.{below-at}
-use Rattle.csm.proofs.CharLaws.{row-end, row-legal}
+use Rattle.csm.proofs.FieldLaws.{below-at, class-size}
+use Rattle.csm.proofs.CharLaws.{row-end, row-legal, row-made}
 
 -- ---- contents with their blank
 
@@ -82,16 +81,6 @@ kd-length r k =
     let m = hex-length 16 (r .key) in
     omega (arith, length-append (hex-text 16 (r .key)) (subfields (r .p) (r .idk1) (r .idk2)))
 
-class-length : (c : Class) → length (class-text c) ≤ 3
-class-length RSI = omega arith
-class-length KSM = omega arith
-class-length RSM = omega arith
-class-length ESM = omega arith
-class-length DSM = omega arith
-class-length ERS = omega arith
-class-length RFS = omega arith
-class-length RTR = omega arith
-
 count-length : (n : ℕ) → within 1 99_999_999 n ≡ true → length (decimal 7 n) ≤ 8
 count-length n k =
     let h = within-true 1 99_999_999 n k in
@@ -108,7 +97,7 @@ erf-length n k =
 
 pub contents-length : (f : Field) (a : Contents f) → contents f .legal a ≡ true
     → length (contents f .print a) ≤ longest-contents f
-contents-length MCL a k = blank-length 3 (class-text a) (class-length a)
+contents-length MCL a k = blank-length 3 (class-text a) (omega (arith, class-size a))
 contents-length RCV a k = blank-length 16 a (run-length 90 1 16 a k)
 contents-length ORG a k = blank-length 16 a (run-length 90 1 16 a k)
 contents-length SVR a k = blank-length 9 (svr .text a) (svr-length a k)
@@ -141,17 +130,13 @@ maybe-length f (some a) k = field-length f a k
 
 pub row-length : (rs : Row) (v : Values rs) → fields rs [] .legal v ≡ true
     → length (fields rs [] .print v) ≤ longest rs
-row-length [] v k = omega arith
-row-length (one f ∷ rs) v k =
-    let h = and-true (field f .legal (v .0)) (fields rs [] .legal (v .1)) k in
-    let i = field-length f (v .0) (h .0) in
-    let j = row-length rs (v .1) (h .1) in
-    omega (arith, length-append (field f .print (v .0)) (fields rs [] .print (v .1)))
-row-length (opt f ∷ rs) v k =
-    let h = and-true (maybe-legal (field f) (v .0)) (fields rs [] .legal (v .1)) k in
-    let i = maybe-length f (v .0) (h .0) in
-    let j = row-length rs (v .1) (h .1) in
-    omega (arith, length-append (maybe-print (field f) (v .0)) (fields rs [] .print (v .1)))
+row-length =
+    row-made (λ rs t. length t ≤ longest rs) (omega arith)
+    (λ f a k rs t h.
+    let i = field-length f a k in
+    let l = length-append (field f .print a) t in
+    (omega arith, omega arith))
+    (λ f rs t h. omega arith)
 
 pub closed-length : (rs : Row) (v : Values rs) → closed rs .legal v ≡ true
     → length (closed rs .print v) ≤ longest rs + 1

@@ -237,7 +237,7 @@ read-back t r e =
     let k = whole-back message-lawful t r (h .1) in
     (rw (k .0) (subst (λ (u : Text). fits u ≡ true) (k .1) (h .0)), k .1)
 
--- ---- for programs: what is legal, part by part; and the head of a text that is read
+-- ---- for programs: what is legal, part by part
 
 pub record Legal (r : Reading) : Type 0 where
   pub rcv : is-name (r .rcv) ≡ true
@@ -252,16 +252,3 @@ legal-parts r e =
     let l = and-true (head .legal (head-of r)) (legal-body (r .body)) (k .0) in
     let h = and-true (is-name (r .rcv)) (is-name (r .org) && true) (l .0) in
     record { rcv = h .0; org = and-true (is-name (r .org)) true (h .1) .0; body = l .1; short = k .1 }
-
-pub parts-legal : (r : Reading) → Legal r → legal r ≡ true
-unfolding legal
-parts-legal r p = rw (p .rcv, p .org, p .body) (p .short)
-
-pub read-head : (t : Text) (r : Reading) → read t ≡ some r
-    → head .read t ≡ some (head-of r, print-body (r .body))
-unfolding print legal
-read-head t r e =
-    let h = read-back t r e in
-    let k = and-true (message .legal r) (fits (print r)) (h .0) in
-    let l = and-true (head .legal (head-of r)) (legal-body (r .body)) (k .0) in
-    ap (head .read) (h .1) ∙ head-lawful .there (head-of r) (print-body (r .body)) (l .0)

@@ -7,38 +7,23 @@ use native.Mathlib.Nat.{pow-suc}
 use native.Mathlib.Omega.{arith}
 use lib.Dec.{eqb, ltb}
 use lib.ListN.{length, length-append}
-use borrow.Author.Tests.{ltb-true, ltb-false, lt-ltb, le-ltb, ne-eqb, eqb-false, not-true}
+use borrow.Author.Tests.{ltb-true, ltb-false, lt-ltb, le-ltb, ne-eqb, eqb-true, eqb-false, not-true}
 use Rattle.octets.specs.Text.{Text, all, within, run-char}
 use Rattle.octets.proofs.Comparing.{both as and-true}
 use Rattle.csm.specs.Fields.{digit, digit-value, numeral, hex-text, decimal}
-use Rattle.csm.proofs.TextLaws.{or-right, within-true, true-within, all-append, all-both}
+use Rattle.csm.proofs.TextLaws.{within-true, all-append, all-both, below-at}
 
 -- ---- digits
 
 pub digit-right : (d : ℕ) → d < 16 → digit-value (digit d) ≡ d
-digit-right d h = go (ltb d 10) refl
-  where
-    go : (b : Bool) → ltb d 10 ≡ b → digit-value (cond b (48 + d) (55 + d)) ≡ d
-    go true q = let i = ltb-true d 10 q in rw (lt-ltb (48 + d) 65 (omega arith)) (omega arith)
-    go false q = let i = ltb-false d 10 q in rw (le-ltb (55 + d) 65 (omega arith)) (omega arith)
+digit-right d h =
+    eqb-true (digit-value (digit d)) d (below-at 16 (λ d. eqb (digit-value (digit d)) d) refl d h)
 
 pub digit-run : (d : ℕ) → d < 16 → run-char 70 (digit d) ≡ true
-digit-run d h = go (ltb d 10) refl
-  where
-    go : (b : Bool) → ltb d 10 ≡ b → run-char 70 (cond b (48 + d) (55 + d)) ≡ true
-    go true q =
-        let i = ltb-true d 10 q in
-        let w : within 48 57 (48 + d) ≡ true = true-within 48 57 (48 + d) (omega arith) (omega arith) in
-        rw w
-    go false q =
-        let i = ltb-false d 10 q in
-        let w : within 65 70 (55 + d) ≡ true = true-within 65 70 (55 + d) (omega arith) (omega arith) in
-        or-right (within 48 57 (55 + d)) (within 65 70 (55 + d)) w
+digit-run = below-at 16 (λ d. run-char 70 (digit d)) refl
 
 pub ten-run : (d : ℕ) → d < 10 → run-char 0 (digit d) ≡ true
-ten-run d h =
-    let w : within 48 57 (48 + d) ≡ true = true-within 48 57 (48 + d) (omega arith) (omega arith) in
-    rw (lt-ltb d 10 h, w)
+ten-run = below-at 10 (λ d. run-char 0 (digit d)) refl
 
 -- a byte that is a digit, or a capital up to F
 pub record Digit (x : ℕ) : Type 0 where
@@ -138,11 +123,7 @@ hex-more k u x r d =
     let p = pow-suc 16 k in
     let q : (16 * m + digit-value x) / 16 ≡ m = omega arith in
     let s : (16 * m + digit-value x) % 16 ≡ digit-value x = omega arith in
-    let put : ℕ → ℕ → Text = λ (y z : ℕ). hex-text k y ++ digit z ∷ [] in
-    let f : hex-text (suc k) (16 * m + digit-value x)
-    ≡ hex-text k m ++ digit (digit-value x) ∷ [] = λ i. put (q i) (s i) in
-    let g : hex-text k m ++ digit (digit-value x) ∷ [] ≡ u ++ x ∷ [] = λ i. r .back i ++ d .back i ∷ [] in
-    record { high = rw e (omega arith); back = rw e (f ∙ g) }
+    record { high = rw e (omega arith); back = rw (e, q, s, r .back, d .back) }
 
 pub hex-back : (k : ℕ) (w : Text) → all (run-char 70) w ≡ true → length w ≡ k → Hex k w
 hex-back zero [] a l = record { high = omega arith; back = refl }
@@ -217,13 +198,10 @@ decimal-more k u x r d =
     let n = 10 * m + (x - 48) in
     let q : (10 * m + (x - 48)) / 10 ≡ m = omega arith in
     let t : (10 * m + (x - 48)) % 10 ≡ x - 48 = omega arith in
-    let put : ℕ → ℕ → Text = λ (y z : ℕ). decimal k y ++ digit z ∷ [] in
-    let g : put (n / 10) (n % 10) ≡ put m (x - 48) = λ i. put (q i) (t i) in
-    let h : put m (x - 48) ≡ u ++ x ∷ [] = λ i. r .back i ++ d .back i ∷ [] in
     record {
       low = rw e (omega arith);
       high = rw e (omega arith);
-      back = rw e (rw (le-ltb n 10 (omega arith)) (g ∙ h));
+      back = rw (e, le-ltb n 10 (omega arith), q, t, r .back, d .back);
     }
 
 pub decimal-back : (k : ℕ) (w : Text) → all (run-char 0) w ≡ true → no-zero w ≡ true

@@ -1,16 +1,19 @@
 -- Laws of texts: tests on every byte, fronts of texts, and answers that may be none.
-use mathlib.Core.Path.{_≡_, refl, ap, _∙_, subst}
+use mathlib.Core.Path.{_≡_, refl, sym, ap, _∙_, subst}
 use mathlib.Core.Bool.{Bool, true, false, cond, not, _&&_, _||_}
+use mathlib.Core.Logic.{⊎-elim}
 use mathlib.Core.List.{[], _∷_, _++_}
 use mathlib.Core.Option.{Option, none, some}
-use Prim.Native.Nat.{ℕ, suc, _≤_, _<_}
+use Prim.Native.Nat.{ℕ, zero, suc, _≤_, _<_}
+use native.Mathlib.Nat.{eq-or-lt-of-le, le-of-suc-le-suc, not-suc-le-zero}
 use native.Mathlib.Omega.{arith}
 use lib.Dec.{eqb, leb}
 use lib.ListN.{length, getD, take, drop}
-use lib.Seq.{split-at}
+use lib.Seq.{split-at, drop-at}
 use borrow.Author.Tests.{eq-eqb, eqb-true, leb-true, le-leb, not-true}
-use Rattle.octets.specs.Text.{Text, all, free, starts, within}
+use Rattle.octets.specs.Text.{Text, all, free, starts, within, run-char}
 use Rattle.octets.proofs.Comparing.{both as and-true, starts-append as starts-there, starts-split as starts-back}
+use Rattle.octets.proofs.Comparing.{all-append as all-of-both}
 use Rattle.csm.specs.Format.{bind, after, until}
 
 -- ---- an answer or none
@@ -47,18 +50,36 @@ within-true low high x e =
 pub true-within : (low high x : ℕ) → low ≤ x → x ≤ high → within low high x ≡ true
 true-within low high x a b = rw (le-leb low x a, le-leb x high b)
 
+-- a byte of a run, which another run may have too
+pub run-wider : (top more : ℕ) → top ≤ more → (x : ℕ) → run-char top x ≡ true → run-char more x ≡ true
+run-wider top more l x k = go (within 48 57 x) refl k
+  where
+    go : (b : Bool) → within 48 57 x ≡ b → b || within 65 top x ≡ true → run-char more x ≡ true
+    go true q k = rw q
+    go false q k =
+        let h = within-true 65 top x k in
+        or-right (within 48 57 x) (within 65 more x) (true-within 65 more x (omega arith) (omega arith))
+
+-- ---- a test on each number below n, computed once
+
+abbrev pub below : ℕ → (ℕ → Bool) → Bool
+below zero f = true
+below (suc n) f = f n && below n f
+
+pub below-at : (n : ℕ) (f : ℕ → Bool) → below n f ≡ true → (i : ℕ) → i < n → f i ≡ true
+below-at zero f e i h = absurd (not-suc-le-zero h)
+below-at (suc n) f e i h =
+    let k = and-true (f n) (below n f) e in
+    ⊎-elim (λ q. subst (λ (j : ℕ). f j ≡ true) (sym q) (k .0)) (λ l. below-at n f (k .1) i l)
+    (eq-or-lt-of-le (le-of-suc-le-suc h))
+
 -- ---- a test that every byte passes
 
 pub all-append : (p : ℕ → Bool) (u v : Text) → all p u ≡ true → all p v ≡ true → all p (u ++ v) ≡ true
-all-append p [] v a b = b
-all-append p (x ∷ u) v a b = let h = and-true (p x) (all p u) a in rw (h .0) (all-append p u v (h .1) b)
+all-append p u v a b = rw (all-of-both p u v, a) b
 
 pub all-both : (p : ℕ → Bool) (u v : Text) → all p (u ++ v) ≡ true → (all p u ≡ true) × (all p v ≡ true)
-all-both p [] v k = (refl, k)
-all-both p (x ∷ u) v k =
-    let h = and-true (p x) (all p (u ++ v)) k in
-    let i = all-both p u v (h .1) in
-    (rw (h .0) (i .0), i .1)
+all-both p u v k = and-true (all p u) (all p v) (sym (all-of-both p u v) ∙ k)
 
 -- a weaker test
 pub all-weaker : (p q : ℕ → Bool) → ((x : ℕ) → p x ≡ true → q x ≡ true)
@@ -70,24 +91,16 @@ all-weaker p q f (x ∷ w) k =
 
 -- a byte that fails the test does not stand there
 pub all-free : (p : ℕ → Bool) (x : ℕ) → p x ≡ false → (w : Text) → all p w ≡ true → free x w ≡ true
-all-free p x z [] k = refl
-all-free p x z (y ∷ w) k =
-    let h = and-true (p y) (all p w) k in
-    let n : eqb y x ≡ false = go (eqb y x) refl (h .0) in
-    rw n (all-free p x z w (h .1))
+all-free p x z = all-weaker p (λ y. not (eqb y x)) (λ y k. ap not (go y (eqb y x) refl k))
   where
-    go : (b : Bool) → eqb y x ≡ b → p y ≡ true → b ≡ false
-    go true q e = let i : p y ≡ p x = ap p (eqb-true y x q) in cc
-    go false q e = refl
+    go : (y : ℕ) (b : Bool) → eqb y x ≡ b → p y ≡ true → b ≡ false
+    go y true q e = let i : p y ≡ p x = ap p (eqb-true y x q) in cc
+    go y false q e = refl
 
 -- ---- the front of a text
 
-pub drop-there : (w t : Text) → drop (length w) (w ++ t) ≡ t
-drop-there [] t = refl
-drop-there (c ∷ w) t = drop-there w t
-
 pub after-there : (w t : Text) → after w (w ++ t) ≡ some t
-after-there w t = rw (starts-there w t, drop-there w t)
+after-there w t = rw (starts-there w t, drop-at w t (length w) refl)
 
 pub after-back : (w s t : Text) → after w s ≡ some t → s ≡ w ++ t
 after-back w s t e =

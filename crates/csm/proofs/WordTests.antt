@@ -1,6 +1,6 @@
 -- For programs: each kind of contents is read by a test and a fold, without printing anything.
 use mathlib.Core.Path.{_≡_, refl, sym, ap, _∙_}
-use mathlib.Core.Bool.{Bool, true, false, cond, _&&_, true≢false}
+use mathlib.Core.Bool.{Bool, true, false, cond, not, _&&_, true≢false}
 use mathlib.Core.List.{List, [], _∷_}
 use mathlib.Core.Option.{Option, none, some}
 use Prim.Native.Nat.{ℕ, zero, suc, _+_, _*_, _/_, _%_, _^_, _≤_, _<_}
@@ -9,11 +9,11 @@ use native.Mathlib.Omega.{arith}
 use lib.Dec.{eqb, leb, ltb}
 use lib.ListN.{length, getD}
 use borrow.Author.Tests.{eqb-true, le-leb, ltb-true, lt-ltb}
-use Rattle.octets.specs.Text.{Text, all, same, within, run-char, is-run}
+use Rattle.octets.specs.Text.{Text, ascii, all, free, same, within, run-char, is-run}
 use Rattle.octets.proofs.Comparing.{both as and-true, same-equal as same-true, same-self as same-refl}
 use Rattle.csm.specs.Format.{Word, value, plain}
 use Rattle.csm.specs.Fields.{numeral, hex-text, hex, decimal, count, index, one-of, error-letters}
-use Rattle.csm.specs.Fields.{letters-of, letters-guess, erf}
+use Rattle.csm.specs.Fields.{letters-of, letters-guess, erf, has-P}
 use Rattle.csm.proofs.TextLaws.{within-true, true-within}
 use Rattle.csm.proofs.FormatLaws.{value-back}
 use Rattle.csm.proofs.NumberLaws.{hex-run, hex-length, hex-back, no-zero, decimal-back, decimal-counted}
@@ -131,18 +131,6 @@ letters-zero : (cs : Text) → letters-of cs 0 ≡ []
 letters-zero [] = refl
 letters-zero (c ∷ cs) = letters-zero cs
 
-letters-odd : (c : ℕ) (cs : Text) (n : ℕ) → letters-of (c ∷ cs) (1 + 2 * n) ≡ c ∷ letters-of cs n
-letters-odd c cs n =
-    let a : (1 + 2 * n) % 2 ≡ 1 = omega arith in
-    let b : (1 + 2 * n) / 2 ≡ n = omega arith in
-    rw (a, b)
-
-letters-even : (c : ℕ) (cs : Text) (n : ℕ) → letters-of (c ∷ cs) (2 * n) ≡ letters-of cs n
-letters-even c cs n =
-    let a : (2 * n) % 2 ≡ 0 = omega arith in
-    let b : (2 * n) / 2 ≡ n = omega arith in
-    rw (a, b)
-
 pub letters-back : (cs w : Text) → in-order cs w ≡ true → letters-of cs (letters-guess cs w) ≡ w
 letters-back [] [] k = refl
 letters-back [] (x ∷ w) k = absurd (true≢false (sym k))
@@ -154,8 +142,15 @@ letters-back (c ∷ cs) (x ∷ w) k = go (eqb x c) refl k (letters-back cs w) (l
         → (in-order cs (x ∷ w) ≡ true → letters-of cs (letters-guess cs (x ∷ w)) ≡ x ∷ w)
         → letters-of (c ∷ cs) (cond b (1 + 2 * letters-guess cs w) (2 * letters-guess cs (x ∷ w))) ≡ x ∷ w
     go true q k r s =
-        letters-odd c cs (letters-guess cs w) ∙ (λ i. sym (eqb-true x c q) i ∷ r k i)
-    go false q k r s = letters-even c cs (letters-guess cs (x ∷ w)) ∙ s k
+        let n = letters-guess cs w in
+        let a : (1 + 2 * n) % 2 ≡ 1 = omega arith in
+        let b : (1 + 2 * n) / 2 ≡ n = omega arith in
+        rw (a, b, r k, ← eqb-true x c q)
+    go false q k r s =
+        let n = letters-guess cs (x ∷ w) in
+        let a : (2 * n) % 2 ≡ 0 = omega arith in
+        let b : (2 * n) / 2 ≡ n = omega arith in
+        rw (a, b, s k)
 
 pub letters-high : (cs w : Text) → letters-guess cs w < 2 ^ length cs
 letters-high [] w = omega arith
@@ -167,20 +162,10 @@ letters-high (c ∷ cs) (x ∷ w) = go (eqb x c) (letters-high cs w) (letters-hi
     go true i j = let p = pow-suc 2 (length cs) in omega arith
     go false i j = let p = pow-suc 2 (length cs) in omega arith
 
-pub letters-low : (cs : Text) (x : ℕ) (w : Text) → in-order cs (x ∷ w) ≡ true → 1 ≤ letters-guess cs (x ∷ w)
-letters-low [] x w k = absurd (true≢false (sym k))
-letters-low (c ∷ cs) x w k = go (eqb x c) k (letters-low cs x w)
-  where
-    go : (b : Bool) → cond b (in-order cs w) (in-order cs (x ∷ w)) ≡ true
-        → (in-order cs (x ∷ w) ≡ true → 1 ≤ letters-guess cs (x ∷ w))
-        → 1 ≤ cond b (1 + 2 * letters-guess cs w) (2 * letters-guess cs (x ∷ w))
-    go true k r = omega arith
-    go false k r = let i = r k in omega arith
-
-erf-low : (w : Text) → in-order error-letters w ≡ true → leb 1 (length w) ≡ true
-    → 1 ≤ letters-guess error-letters w
-erf-low [] k l = absurd (true≢false (sym l))
-erf-low (x ∷ w) k l = letters-low error-letters x w k
+-- no letters are no text
+erf-low : (w : Text) (n : ℕ) → letters-of error-letters n ≡ w → leb 1 (length w) ≡ true → 1 ≤ n
+erf-low w zero e l = absurd (true≢false (sym l ∙ ap (λ (t : Text). leb 1 (length t)) (sym e)))
+erf-low w (suc n) e l = omega arith
 
 pub erf-value : (w : Text) → value erf w ≡ cond (is-erf w) (some (letters-guess error-letters w)) none
 erf-value = value-test erf is-erf forth back
@@ -190,15 +175,36 @@ erf-value = value-test erf is-erf forth back
         × (letters-of error-letters (letters-guess error-letters w) ≡ w)
     forth w e =
         let h = and-true (in-order error-letters w) (leb 1 (length w)) e in
-        let low = erf-low w (h .0) (h .1) in
-        let high = letters-high error-letters w in (
-          true-within 1 511 (letters-guess error-letters w) low (omega arith),
-          letters-back error-letters w
-              (h .0),
-        )
+        let b = letters-back error-letters w (h .0) in
+        let low = erf-low w (letters-guess error-letters w) b (h .1) in
+        let high = letters-high error-letters w in
+        (true-within 1 511 (letters-guess error-letters w) low (omega arith), b)
 
     back : (n : ℕ) → within 1 511 n ≡ true → is-erf (letters-of error-letters n) ≡ true
     back zero e = absurd (true≢false (sym e))
     back (suc n) e =
         let h = within-true 1 511 (suc n) e in
         below-at 511 (λ i. is-erf (letters-of error-letters (suc i))) refl n (omega arith)
+
+-- ---- P among the letters is one bit of their number
+
+-- a letter that is not P
+other : (b : Bool) (x : ℕ) (w : Text) → eqb x 80 ≡ false → free 80 (cond b (x ∷ w) w) ≡ free 80 w
+other true x w e = ap (λ (z : Bool). not z && free 80 w) e
+other false x w e = refl
+
+-- P
+this : (b : Bool) (w : Text) → free 80 w ≡ true → not (free 80 (cond b (80 ∷ w) w)) ≡ b
+this true w e = refl
+this false w e = ap not e
+
+pub has-P-bit : (n : ℕ) → has-P n ≡ eqb (n / 128 % 2) 1
+has-P-bit n =
+    let m = n / 2 / 2 / 2 / 2 / 2 / 2 / 2 in
+    let q : m ≡ n / 128 = omega arith in
+    ap not
+    (other (eqb (n % 2) 1) 65 _ refl ∙ other (eqb (n / 2 % 2) 1) 66 _ refl ∙ other (eqb (n / 2 / 2 % 2) 1) 70 _ refl
+    ∙ other (eqb (n / 2 / 2 / 2 % 2) 1) 73 _ refl ∙ other (eqb (n / 2 / 2 / 2 / 2 % 2) 1) 75 _ refl
+    ∙ other (eqb (n / 2 / 2 / 2 / 2 / 2 % 2) 1) 77 _ refl ∙ other (eqb (n / 2 / 2 / 2 / 2 / 2 / 2 % 2) 1) 79 _ refl)
+    ∙ this (eqb (m % 2) 1) (letters-of (ascii "U") (m / 2)) (other (eqb (m / 2 % 2) 1) 85 [] refl)
+    ∙ ap (λ (k : ℕ). eqb (k % 2) 1) q

@@ -1,6 +1,6 @@
 -- Laws of digits: the number of at most sixteen of them, digit by digit, has room in 64 bits.
 use mathlib.Core.Path.{_≡_, refl, ap, _∙_}
-use mathlib.Core.Bool.{Bool, true, false, not, _||_}
+use mathlib.Core.Bool.{true, not}
 use mathlib.Core.List.{[], _∷_}
 use Prim.Native.Nat.{ℕ, _+_, _*_, _^_, _≤_, _<_}
 use native.Mathlib.Nat.{mul-le-mul-right, pow-le-pow-right, pow-suc}
@@ -11,26 +11,17 @@ use lib.ListN.{length, drop, getD}
 use Rattle.octets.specs.Text.{Text, all, within, run-char, is-run}
 use Rattle.octets.proofs.Comparing.{drop-step, drop-end, all-at, both as and-true}
 use Rattle.csm.specs.Fields.{digit-value, numeral}
-use Rattle.csm.proofs.TextLaws.{within-true, true-within, or-right, all-weaker}
+use Rattle.csm.proofs.TextLaws.{within-true, true-within, run-wider, all-weaker}
 use Rattle.csm.proofs.NumberLaws.{hex-digit, no-zero}
 
 -- ---- a run of digits of any base up to sixteen
-
-digit-of : (top : ℕ) → top ≤ 70 → (x : ℕ) → run-char top x ≡ true → run-char 70 x ≡ true
-digit-of top l x k = go (within 48 57 x) refl k
-  where
-    go : (b : Bool) → within 48 57 x ≡ b → b || within 65 top x ≡ true → run-char 70 x ≡ true
-    go true q k = rw q
-    go false q k =
-        let h = within-true 65 top x k in
-        or-right (within 48 57 x) (within 65 70 x) (true-within 65 70 x (omega arith) (omega arith))
 
 pub digits-of : (top low high : ℕ) → top ≤ 70 → high ≤ 16 → (w : Text) → is-run top low high w ≡ true
     → is-run 70 0 16 w ≡ true
 digits-of top low high l m w k =
     let h = and-true (all (run-char top) w) (within low high (length w)) k in
     let i = within-true low high (length w) (h .1) in
-    let a : all (run-char 70) w ≡ true = all-weaker (run-char top) (run-char 70) (digit-of top l) w (h .0) in
+    let a : all (run-char 70) w ≡ true = all-weaker (run-char top) (run-char 70) (run-wider top 70 l) w (h .0) in
     rw a (true-within 0 16 (length w) (omega arith) (omega arith))
 
 pub few-digits : (w : Text) → is-run 70 0 16 w ≡ true → length w ≤ 16

@@ -21,7 +21,7 @@ use Rattle.csm.specs.Format.{value}
 use Rattle.csm.specs.Fields.{numeral, named, split, onto, nonempty, kd, kd-guess}
 use Rattle.csm.proofs.FieldLaws.{split-one, split-more, name-dotless}
 use Rattle.csm.proofs.FormatLaws.{value-back}
-use Rattle.csm.proofs.KdTest.{is-mark, is-maybe-name, is-subs, is-kd, kd-value}
+use Rattle.csm.proofs.KdTest.{is-mark, is-maybe-name, is-subs, is-kd, kd-value, split-pieced}
 use Rattle.fields.specs.Seen.{name-at, names-at}
 use Rattle.fields.specs.Steps.{held, key-seen, subfields-seen}
 use Rattle.fields.specs.declared.keys.Subfields.{Subfields}
@@ -70,26 +70,12 @@ pub behind-dot : (at : ℕ) (w : Text) (n : ℕ) → n ≡ 0 + before dot w → 
     → at + n + 1 + length (drop (n + 1) w) ≡ at + length w
 behind-dot at w n e h = omega (arith, dot-within w n e, h, length-drop (n + 1) w)
 
--- a text has a first piece
-abbrev pub First : List Text → Type 0
-First l = (p : Text) × (ps : List Text) × (l ≡ p ∷ ps)
-
-pub first-piece : (w : Text) → First (split w)
-first-piece [] = ([], [], refl)
-first-piece (x ∷ w) = go (eqb x dot) (split w)
-  where
-    go : (b : Bool) (l : List Text) → First (cond b ([] ∷ l) (onto x l))
-    go true l = ([], l, refl)
-    go false [] = (x ∷ [], [], refl)
-    go false (p ∷ ps) = (x ∷ p, ps, refl)
-
 -- ---- names behind the mark
 
 pub names-one : (at : ℕ) (w : Text) (n : ℕ) → n ≡ 0 + before dot w → n ≡ length w → (b : Bool) → is-name w ≡ b
     → subfields-seen at ([] ∷ split w) ≡ cond b (Are false (held at n) nowhere) Nothing
 unfolding subfields-seen held
-names-one at w n e h b q =
-    rw (split-none w n e h, q) (ap (λ (i : ℕ). cond b (Are false (held at i) nowhere) Nothing) (sym h))
+names-one at w n e h b q = rw (split-none w n e h, q, h)
 
 -- a second name has no dot
 second : (at : ℕ) (v t : Text) (b : Bool) → is-name t ≡ b
@@ -107,7 +93,7 @@ second at v t false q = go (eqb (before dot t) (length t)) refl
         ≡ cond (is-maybe-name v && false) (Are false (held at (length v)) (held (at + length v + 1) (length t))) Nothing
     go true k = rw (split-none t (before dot t) e (eqb-true (before dot t) (length t) k), q)
     go false k =
-        let f = first-piece (drop (before dot t + 1) t) in
+        let f = split-pieced (drop (before dot t + 1) t) in
         rw (split-first t (before dot t) e (eqb-false (before dot t) (length t) k), f .2)
         (never (is-maybe-name v))
       where
@@ -167,7 +153,7 @@ pub mark-more : (at : ℕ) (w : Text) (n : ℕ) → n ≡ 0 + before dot w → (
     ≡ marked (is-mark (take n w)) (same (take n w) (ascii "P")) (subfields-seen at ([] ∷ split (drop (n + 1) w)))
 mark-more at w n e h =
     let m = take n w in
-    let f = first-piece (drop (n + 1) w) in
+    let f = split-pieced (drop (n + 1) w) in
     ap (subfields-seen at) (split-first w n e h ∙ ap (λ (l : List Text). m ∷ l) (f .2)) ∙ mark-before at m (f .0) (f .1)
     ∙ ap (λ (l : List Text). marked (is-mark m) (same m (ascii "P")) (subfields-seen at ([] ∷ l))) (sym (f .2))
 

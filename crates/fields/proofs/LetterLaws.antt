@@ -118,13 +118,7 @@ module _ (w : Text) (value i k : ℕ) (r : Sought error-letters w value i k) (ni
   none-left = drop-end error-letters k nine
 
   guess-is : letters-guess error-letters w ≡ value
-  guess-is =
-      let e : letters-guess (drop k error-letters) (drop i w) ≡ 0 =
-      ap (λ (t : Text). letters-guess t (drop i w)) none-left in
-      let m : 2 ^ k * letters-guess (drop k error-letters) (drop i w) ≡ 0 =
-      ap (λ (g : ℕ). 2 ^ k * g) e ∙ mul-zero (2 ^ k) in
-      let b = r .bits in
-      omega arith
+  guess-is = r .bits ∙ rw (none-left, mul-zero (2 ^ k)) (omega arith)
 
   order-is : in-order error-letters w ≡ in-order [] (drop i w)
   order-is = r .order ∙ ap (λ (t : Text). in-order t (drop i w)) none-left

@@ -5,7 +5,7 @@ use mathlib.Core.List.{[], _∷_, _++_}
 use mathlib.Core.Option.{Option, none, some}
 use Prim.Native.Nat.{ℕ, suc, _+_, _-_, _≤_, _<_}
 use native.Mathlib.Omega.{arith}
-use lib.ListN.{length, take, drop, length-append, length-drop}
+use lib.ListN.{length, take, drop, length-drop}
 use lib.Seq.{drop-drop, length-take-le, take-at, drop-at, take-all}
 use Rattle.octets.specs.Text.{Text, blank, free, starts}
 use Rattle.octets.specs.Part.{before, found, part}
@@ -69,14 +69,31 @@ pub piece-endless : (tag s : Text) (at from to : ℕ) → starts tag (drop at s)
 piece-endless tag s at from to e f t h =
     let u = drop from s in
     let l = length-drop from s in
-    let b : piece tag (drop at s) ≡ until blank u =
-    behind-tag tag s at e ∙ ap (λ (i : ℕ). until blank (drop i s)) (sym f) in
-    rw (b, until-end blank u (omega arith))
+    rw (behind-tag tag s at e, ← f, until-end blank u (omega arith))
 
 -- ---- contents that were found
 
+-- behind a tag at a place stand w, a blank and t
+pub record Stands (tag s : Text) (at : ℕ) (w t : Text) : Type 0 where
+  pub contents : drop (at + length tag) s ≡ w ++ blank ∷ t
+  pub rest : drop (next-of itself at tag (some w)) s ≡ t
+
+pub stands : (tag s : Text) (at : ℕ) (w t : Text) → drop at s ≡ tag ++ (w ++ blank ∷ t) → Stands tag s at w t
+stands tag s at w t e =
+    let u : drop (at + length tag) s ≡ w ++ blank ∷ t =
+    sym (drop-drop (length tag) at s) ∙ ap (drop (length tag)) e ∙ drop-at tag (w ++ blank ∷ t) (length tag) refl in
+    let m : at + length tag + length w + 1 ≡ at + length tag + suc (length w) = omega arith in
+    record {
+      contents = u;
+      rest = ap (λ (i : ℕ). drop i s) m ∙ sym (drop-drop (suc (length w)) (at + length tag) s)
+          ∙ ap (drop (suc (length w))) u ∙ behind w;
+    }
+  where
+    behind : (w : Text) → drop (suc (length w)) (w ++ blank ∷ t) ≡ t
+    behind [] = refl
+    behind (x ∷ w) = behind w
+
 pub record Found (tag s : Text) (at : ℕ) (w t : Text) : Type 0 where
-  pub within : next-of itself at tag (some w) ≤ length s
   pub part : part s (span-of itself at tag (some w)) ≡ w
   pub rest : t ≡ drop (next-of itself at tag (some w)) s
 
@@ -84,21 +101,9 @@ pub found-piece : (tag s : Text) (at : ℕ) (w t : Text) → piece tag (drop at 
 unfolding piece part
 found-piece tag s at w t q =
     let h = bind-some (after tag (drop at s)) (until blank) (w, t) q in
-    let e : drop at s ≡ tag ++ (w ++ blank ∷ t) =
-    after-back tag (drop at s) (h .0) (h .1) ∙ ap (λ (u : Text). tag ++ u) (until-back blank (h .0) (w, t) (h .2)) in
-    let u : drop (at + length tag) s ≡ w ++ blank ∷ t =
-    sym (drop-drop (length tag) at s) ∙ ap (drop (length tag)) e ∙ drop-at tag (w ++ blank ∷ t) (length tag) refl in
-    let m : at + length tag + suc (length w) ≡ at + length tag + length w + 1 = omega arith in
-    record {
-      within = omega (arith, ap length u, length-drop (at + length tag) s, length-append w (blank ∷ t));
-      part = ap (take (length w)) u ∙ take-at w (blank ∷ t) (length w) refl;
-      rest = sym (behind w) ∙ ap (drop (suc (length w))) (sym u)
-          ∙ drop-drop (suc (length w)) (at + length tag) s ∙ ap (λ (i : ℕ). drop i s) m;
-    }
-  where
-    behind : (w : Text) → drop (suc (length w)) (w ++ blank ∷ t) ≡ t
-    behind [] = refl
-    behind (x ∷ w) = behind w
+    let r = stands tag s at w t
+    (after-back tag (drop at s) (h .0) (h .1) ∙ ap (λ (u : Text). tag ++ u) (until-back blank (h .0) (w, t) (h .2))) in
+    record { part = ap (take (length w)) (r .contents) ∙ take-at w (blank ∷ t) (length w) refl; rest = sym (r .rest) }
 
 -- ---- what a field reads
 
@@ -166,9 +171,7 @@ number-found c tag s at =
 pub number-read : (c : Word ℕ) (tag s : Text) (at : ℕ) {p : Place} {w : Text} {n : Number} {r : NumberField}
     → p ≡ place-of itself at tag (taken (piece tag (drop at s))) → w ≡ part s (p .span) → n ≡ number-seen (value c w)
     → r ≡ placed at p n → r ≡ number-at (c .text) at tag (taken (pre tag (upto blank c) .read (drop at s)))
-number-read c tag s at {p} e f g h =
-    h ∙ ap (placed at p) (g ∙ ap (λ (w : Text). number-seen (value c w)) f)
-    ∙ ap (λ (p : Place). placed at p (number-seen (value c (part s (p .span))))) e ∙ sym (number-found c tag s at)
+number-read c tag s at e f g h = rw (h, g, f, e) (sym (number-found c tag s at))
 
 -- contents that stand for themselves
 run-found : (p : Text → Bool) (tag s : Text) (at : ℕ)
@@ -200,9 +203,7 @@ run-found p tag s at =
 pub run-read : (f : Text → Bool) (tag s : Text) (at : ℕ) {p r : Place} {w : Text} {b : Bool}
     → p ≡ place-of itself at tag (taken (piece tag (drop at s))) → w ≡ part s (p .span) → b ≡ f w → r ≡ kept at p b
     → r ≡ place-of itself at tag (taken (pre tag (upto blank (plain f)) .read (drop at s)))
-run-read f tag s at {p} e g h k =
-    k ∙ ap (kept at p) (h ∙ ap f g) ∙ ap (λ (p : Place). kept at p (f (part s (p .span)))) e
-    ∙ sym (run-found f tag s at)
+run-read f tag s at e g h k = cc (run-found f tag s at)
 
 -- the class
 pub class-found : (s : Text) (at : ℕ)
@@ -243,28 +244,15 @@ half = upto blank (hex half-digits)
 abbrev pub both-halves : ℕ × Text → Option (ℕ × Text)
 both-halves p = bind (half .read (p .1)) (λ q. some (join-halves half-digits (p .0, q .0), q .1))
 
+halves-read : (o : Option Text) (f : Text → Option (ℕ × Text))
+    → bind {B = ℕ × Text} o (λ u.
+    bind (bind {B = (ℕ × ℕ) × Text} (f u) (λ p. bind (f (p .1)) (λ q. some ((p .0, q .0), q .1))))
+    (λ p. some (join-halves half-digits (p .0), p .1)))
+    ≡ bind (bind o f) (λ p. bind (f (p .1)) (λ q. some (join-halves half-digits (p .0, q .0), q .1)))
+halves-read o f = simp (← bind-bind)
+
 pub check-read : (tag s : Text) → pre tag check .read s ≡ bind (pre tag half .read s) both-halves
-check-read tag s = go (after tag s)
-  where
-    paired : ℕ → ℕ × Text → Option ((ℕ × ℕ) × Text)
-    paired h q = some ((h, q .0), q .1)
-
-    whole : (ℕ × ℕ) × Text → Option (ℕ × Text)
-    whole p = some (join-halves half-digits (p .0), p .1)
-
-    second : (h : ℕ) (o : Option (ℕ × Text))
-        → bind (bind o (paired h)) whole ≡ bind o (λ q. some (join-halves half-digits (h, q .0), q .1))
-    second h none = refl
-    second h (some q) = refl
-
-    first : (o : Option (ℕ × Text))
-        → bind (bind o (λ p. bind (half .read (p .1)) (paired (p .0)))) whole ≡ bind o both-halves
-    first none = refl
-    first (some p) = second (p .0) (half .read (p .1))
-
-    go : (o : Option Text) → bind o (check .read) ≡ bind (bind o (half .read)) both-halves
-    go none = refl
-    go (some u) = first (half .read u)
+check-read tag s = halves-read (after tag s) (half .read)
 
 -- what is read of the second half
 abbrev with-first : ℕ → Option (ℕ × Text) → Option (ℕ × Text)
@@ -311,9 +299,7 @@ check-found tag s at =
     third w h p none e = refl
     third w h p (some (v, t)) e =
         let next = next-of itself at tag (some w) in
-        go (value h4 v) refl
-        ∙ ap (λ (u : Text). placed at (joined (place-of itself at tag (some w)) (place-of itself next [] (some v)))
-        (number-seen (halves (some h) (value h4 u)))) (sym (found-piece [] s next v t e .part))
+        rw (found-piece [] s next v t e .part) (go (value h4 v) refl)
       where
         go : (o : Option ℕ) → value h4 v ≡ o
             → number-at check-text at tag (taken (with-first h (bind o (λ a. some (a, t)))))
@@ -341,13 +327,7 @@ check-found tag s at =
     first none e = none-when (found (taken (piece [] (drop at s))))
     first (some (w, t)) e =
         let r = found-piece tag s at w t e in
-        let next = next-of itself at tag (some w) in
-        let q = place-of itself next [] (taken (piece [] (drop next s))) in
-        ap (λ (u : Text). number-at check-text at tag
-        (taken (bind (bind (value h4 w) (λ a. some (a, u))) both-halves))) (r .rest)
-        ∙ second w (value h4 w) refl
-        ∙ ap (λ (u : Text). placed at (joined (place-of itself at tag (some w)) q)
-        (number-seen (halves (value h4 u) (value h4 (part s (q .span)))))) (sym (r .part))
+        rw (r .part, r .rest) (second w (value h4 w) refl)
 
 pub check-read-as : (tag s : Text) (at : ℕ) {p q j : Place} {v w : Text} {n : Number} {r : NumberField}
     → p ≡ place-of itself at tag (taken (piece tag (drop at s)))
@@ -356,10 +336,4 @@ pub check-read-as : (tag s : Text) (at : ℕ) {p q j : Place} {v w : Text} {n : 
     → n ≡ number-seen (halves (value (hex half-digits) v) (value (hex half-digits) w))
     → j ≡ joined p q → r ≡ placed at j n
     → r ≡ number-at check-text at tag (taken (pre tag check .read (drop at s)))
-check-read-as tag s at {p} {q} {n = n} d e f g h j k =
-    let of : Place → Place → NumberField = λ p q. placed at (joined p q) (number-seen (halves
-    (value (hex half-digits) (part s (p .span))) (value (hex half-digits) (part s (q .span))))) in
-    k ∙ ap (λ (j : Place). placed at j n) j ∙ ap (placed at (joined p q))
-    (h ∙ (λ i. number-seen (halves (value (hex half-digits) (f i)) (value (hex half-digits) (g i)))))
-    ∙ ap (of p) e ∙ ap (λ (p : Place). of p (place-of itself (p .next) [] (taken (piece [] (drop (p .next) s))))) d
-    ∙ sym (check-found tag s at)
+check-read-as tag s at d e f g h j k = cc (check-found tag s at)

@@ -12,7 +12,7 @@ use Rattle.octets.specs.Text.{Text, ascii, blank, same}
 use Rattle.octets.specs.Part.{before}
 use Rattle.octets.proofs.Comparing.{drop-end}
 use Rattle.csm.specs.Format.{value}
-use Rattle.csm.specs.Fields.{onto, index, services, mcl, class-text}
+use Rattle.csm.specs.Fields.{onto, index, mcl, class-text}
 use Rattle.csm.specs.Fields as csm
 use Rattle.csm.proofs.FormatLaws.{value-back}
 use Rattle.csm.proofs.WordTests.{index-back}
@@ -72,28 +72,9 @@ index-end t w k at rest h =
 
 -- ---- the tables
 
-pub services-table : texts (ascii " IV KD KD.IV KK KK.IV KK.KD KK.KD.IV *KK *KK.IV *KK.KD *KK.KD.IV") ≡ services
-services-table = refl
-
 -- the classes in the code's order
 abbrev pub class-texts : List Text
 class-texts = texts (ascii "RSI KSM RSM ESM DSM ERS RFS RTR")
-
-abbrev pub classes : List Class
-classes =
-    class.Rsi ∷ class.Ksm ∷ class.Rsm ∷ class.Esm ∷ class.Dsm ∷ class.Ers ∷ class.Rfs ∷ class.Rtr ∷ []
-
-named : (i : ℕ) → i < 8
-    → class-seen (value mcl (getD class-texts i [])) ≡ getD classes i class.Nothing
-named zero h = refl
-named (suc zero) h = refl
-named (suc (suc zero)) h = refl
-named (suc (suc (suc zero))) h = refl
-named (suc (suc (suc (suc zero)))) h = refl
-named (suc (suc (suc (suc (suc zero))))) h = refl
-named (suc (suc (suc (suc (suc (suc zero)))))) h = refl
-named (suc (suc (suc (suc (suc (suc (suc zero))))))) h = refl
-named (suc (suc (suc (suc (suc (suc (suc (suc i)))))))) h = absurd (omega arith)
 
 listed : (c : csm.Class) → index class-texts (class-text c) < 8
 listed csm.RSI = omega arith
@@ -106,11 +87,11 @@ listed csm.RFS = omega arith
 listed csm.RTR = omega arith
 
 pub class-named : (w : Text) (i : ℕ) → i ≡ index class-texts w → i < 8
-    → class-seen (value mcl w) ≡ getD classes i class.Nothing
+    → class-seen (value mcl w) ≡ class-seen (value mcl (getD class-texts i []))
 class-named w i e h =
     let q : getD class-texts i [] ≡ w =
     ap (λ (j : ℕ). getD class-texts j []) e ∙ index-back class-texts w (omega arith) in
-    ap (λ (v : Text). class-seen (value mcl v)) (sym q) ∙ named i h
+    ap (λ (v : Text). class-seen (value mcl v)) (sym q)
 
 -- none of four numbers from a on
 pub past-four : (a n : ℕ) → a ≤ n → (n ≡ a → ⊥) → (n ≡ a + 1 → ⊥) → (n ≡ a + 2 → ⊥) → (n ≡ a + 3 → ⊥)

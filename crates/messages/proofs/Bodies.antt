@@ -1,10 +1,10 @@
 -- What the code asks of each class's parts is what makes its body legal.
-use mathlib.Core.Path.{_≡_, refl, sym, ap, _∙_}
-use mathlib.Core.Bool.{Bool, true, false, cond, not, _&&_, _||_}
+use mathlib.Core.Path.{_≡_, refl, ap, _∙_}
+use mathlib.Core.Bool.{Bool, true, false, cond, not, _&&_, and-true as and-yes, and-false as and-no}
 use mathlib.Core.List.{_∷_}
-use Prim.Native.Nat.{ℕ, _/_, _%_, _^_, _≤_, _<_}
+use Prim.Native.Nat.{ℕ, _/_, _%_, _^_, _<_}
 use native.Mathlib.Omega.{arith}
-use lib.Dec.{ltb, eqb}
+use lib.Dec.{ltb}
 use lib.ListN.{length}
 use borrow.Author.Tests.{lt-ltb}
 use Rattle.octets.specs.Text.{Text, all, within, run-char, is-run}
@@ -14,9 +14,9 @@ use Rattle.csm.specs.Format.{maybe-legal}
 use Rattle.csm.specs.Fields.{hex-text, field, has-P, contents, KD, IV, EDK, MAC}
 use Rattle.csm.specs.Message.{legal-body}
 use Rattle.csm.specs.Covered.{covered-part}
-use Rattle.csm.proofs.TextLaws.{within-true, true-within, or-right, all-weaker}
+use Rattle.csm.proofs.TextLaws.{true-within, run-wider, all-weaker}
 use Rattle.csm.proofs.NumberLaws.{hex-run, hex-length}
-use Rattle.csm.proofs.FieldLaws.{below-at}
+use Rattle.csm.proofs.WordTests.{has-P-bit}
 use Rattle.writer.specs.declared.Vector.{Vector}
 use Rattle.writer.specs.declared.Vector.the-variants.{Absent, Plain, Enciphered}
 use Rattle.messages.specs.declared.Counts.{Counts}
@@ -26,7 +26,6 @@ use Rattle.messages.specs.Readings.{rsi-reading, rsm-reading, esm-readin
 use Rattle.writer.specs.Contents.{there, kd-of, iv-of}
 use Rattle.messages.specs.Readings.{unsealed-ksm}
 use Rattle.messages.specs.Parts.{counts-legal, error-legal, kd-legal, keys-legal, dated-legal, ksm-legal}
-use Rattle.messages.proofs.Judging.{and-yes}
 
 -- ---- RSI and RSM
 
@@ -46,33 +45,11 @@ rsm-legal rcv org key =
 
 -- ---- ESM
 
--- P is bit 7
-pub letter-P : (n : ℕ) → n ≤ 511 → has-P n ≡ eqb (n / 128 % 2) 1
-letter-P n h =
-    go (has-P n) (eqb (n / 128 % 2) 1)
-    (below-at 512 (λ i. alike (has-P i) (eqb (i / 128 % 2) 1)) refl n (omega arith))
-  where
-    alike : Bool → Bool → Bool
-    alike true b = b
-    alike false b = not b
-
-    go : (a b : Bool) → alike a b ≡ true → a ≡ b
-    go true true e = refl
-    go true false e = sym e
-    go false true e = e
-    go false false e = refl
-
 -- with counts and without, in the order of the fields
 ordered : (w p r h : Bool) → (p && (r && (w && true))) && cond h true false ≡ w && (h && (p && r))
-ordered true true true true = refl
-ordered true true true false = refl
-ordered true true false true = refl
-ordered true true false false = refl
-ordered true false r true = refl
-ordered true false r false = refl
-ordered false true true h = refl
-ordered false true false h = refl
-ordered false false r h = refl
+ordered true p r true = rw (and-yes r, and-yes (p && r))
+ordered true p r false = and-no (p && (r && true))
+ordered false p r h = rw (and-no r, and-no p)
 
 countless : (w h : Bool) → (w && true) && cond h false true ≡ w && (not h && true)
 countless true true = refl
@@ -82,40 +59,21 @@ countless false h = refl
 pub esm-legal : (rcv org : Text) (n : ℕ) (c : Counts)
     → legal-body (esm-reading rcv org n c .body) ≡ error-legal n c
 unfolding esm-reading error-legal counts-legal
-esm-legal rcv org n Without = countless (within 1 511 n) (has-P n) ∙ swap (within 1 511 n) refl
-  where
-    swap : (b : Bool) → within 1 511 n ≡ b
-        → within 1 511 n && (not (has-P n) && true) ≡ within 1 511 n && (not (eqb (n / 128 % 2) 1) && true)
-    swap true q = ap (λ (x : Bool). within 1 511 n && (not x && true)) (letter-P n (within-true 1 511 n q .1))
-    swap false q = rw q
+esm-legal rcv org n Without =
+    countless (within 1 511 n) (has-P n) ∙ ap (λ (x : Bool). within 1 511 n && (not x && true)) (has-P-bit n)
 esm-legal rcv org n (Both p r) =
-    ordered (within 1 511 n) (within 1 99_999_999 p) (within 1 99_999_999 r) (has-P n) ∙ swap (within 1 511 n) refl
-  where
-    l : Bool
-    l = within 1 99_999_999 p && within 1 99_999_999 r
-
-    swap : (b : Bool) → within 1 511 n ≡ b
-        → within 1 511 n && (has-P n && l) ≡ within 1 511 n && (eqb (n / 128 % 2) 1 && l)
-    swap true q = ap (λ (x : Bool). within 1 511 n && (x && l)) (letter-P n (within-true 1 511 n q .1))
-    swap false q = rw q
+    let a = within 1 99_999_999 p in
+    let b = within 1 99_999_999 r in
+    ordered (within 1 511 n) a b (has-P n) ∙ ap (λ (x : Bool). within 1 511 n && (x && (a && b))) (has-P-bit n)
 
 -- ---- KSM
 
--- a hex digit is a character of an IV
-run-more : (x : ℕ) → run-char 70 x ≡ true → run-char 90 x ≡ true
-run-more x k = go (within 48 57 x) refl k
-  where
-    go : (b : Bool) → within 48 57 x ≡ b → b || within 65 70 x ≡ true → run-char 90 x ≡ true
-    go true q k = rw q
-    go false q k =
-        let h = within-true 65 70 x k in
-        or-right (within 48 57 x) (within 65 90 x) (true-within 65 90 x (omega arith) (omega arith))
-
+-- hex digits are characters of an IV
 iv-run : (x v : ℕ) → run-char 90 x ≡ true → is-run 90 1 17 (x ∷ hex-text 16 v) ≡ true
 iv-run x v k =
     let l = hex-length 16 v in
     let a : all (run-char 90) (hex-text 16 v) ≡ true =
-    all-weaker (run-char 70) (run-char 90) run-more (hex-text 16 v) (hex-run 16 v) in
+    all-weaker (run-char 70) (run-char 90) (run-wider 70 90 (omega arith)) (hex-text 16 v) (hex-run 16 v) in
     rw (k, a) (true-within 1 17 (length (x ∷ hex-text 16 v)) (omega arith) (omega arith))
 
 pub iv-legal : (v : Vector) → maybe-legal (field IV) (iv-of v) ≡ true

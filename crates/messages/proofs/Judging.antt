@@ -1,13 +1,13 @@
 -- What is legal, part by part, and what that says of the answer and the buffer.
-use mathlib.Core.Path.{_≡_, refl, sym, ap, _∙_}
-use mathlib.Core.Bool.{Bool, true, false, not, _&&_}
+use mathlib.Core.Path.{_≡_, sym, ap, _∙_}
+use mathlib.Core.Bool.{Bool, true, false, not, _&&_, and-assoc, and-true as and-yes, and-false as and-no}
 use Prim.Native.Nat.{ℕ, _/_, _%_, _≤_, _<_}
 use native.Mathlib.Omega.{arith}
 use lib.Dec.{leb, eqb}
 use lib.ListN.{length}
 use borrow.Author.Tests.{leb-true}
 use Rattle.octets.specs.Text.{Text, within, is-name}
-use Rattle.octets.proofs.Comparing.{both as and-true}
+use Rattle.octets.proofs.Comparing.{both as and-true, iff}
 use Rattle.octets.specs.Wrote.{Wrote}
 use Rattle.octets.proofs.Writing.{wrote-fits}
 use Rattle.messages.proofs.Lengths.{known-short}
@@ -25,25 +25,6 @@ use Rattle.messages.specs.declared.Counts.the-variants.{Without, Both}
 use Rattle.messages.specs.declared.Ksm.{Ksm}
 use Rattle.messages.specs.Answers.{writes, answer, buffer}
 use Rattle.messages.specs.Parts.{counts-legal, counts-agree, error-legal, keys-legal, dated-legal, ksm-legal}
-
--- ---- truth values
-
-pub bool-eq : (a b : Bool) → (a ≡ true → b ≡ true) → (b ≡ true → a ≡ true) → a ≡ b
-bool-eq true b f g = sym (f refl)
-bool-eq false true f g = g refl
-bool-eq false false f g = refl
-
-pub and-assoc : (a b c : Bool) → a && (b && c) ≡ (a && b) && c
-and-assoc true b c = refl
-and-assoc false b c = refl
-
-pub and-yes : (a : Bool) → a && true ≡ a
-and-yes true = refl
-and-yes false = refl
-
-pub and-no : (a : Bool) → a && false ≡ false
-and-no true = refl
-and-no false = refl
 
 -- ---- counts
 
@@ -94,7 +75,7 @@ addressable r l = leb 256 (length l) && (is-name (r .rcv) && is-name (r .org))
 pub legal-known : (r : Reading) → known (r .body) ≡ true
     → legal r ≡ (is-name (r .rcv) && is-name (r .org)) && legal-body (r .body)
 legal-known r e =
-    bool-eq (legal r) ((is-name (r .rcv) && is-name (r .org)) && legal-body (r .body))
+    iff (legal r) ((is-name (r .rcv) && is-name (r .org)) && legal-body (r .body))
     (λ k. let p = legal-parts r k in rw (p .rcv, p .org) (p .body))
     (λ k.
     let h = and-true (is-name (r .rcv) && is-name (r .org)) (legal-body (r .body)) k in
@@ -106,7 +87,7 @@ pub writes-is : (r : Reading) (l : Text) → known (r .body) ≡ true
 unfolding writes
 writes-is r l e =
     ap (λ (b : Bool). leb 256 (length l) && b) (legal-known r e)
-    ∙ and-assoc (leb 256 (length l)) (is-name (r .rcv) && is-name (r .org)) (legal-body (r .body))
+    ∙ sym (and-assoc (leb 256 (length l)) (is-name (r .rcv) && is-name (r .org)) (legal-body (r .body)))
 
 abbrev pub Answers : Reading → Text → Text → Written → Type 0
 Answers r l l₁ w = (w ≡ answer r l) × (l₁ ≡ buffer r l)

@@ -53,8 +53,7 @@ tail-parts k h =
 
 -- as the writers leave it, and as a message's format has it
 whole : (s r o b e : Text) → ((s ++ (r ++ o)) ++ b) ++ e ≡ (s ++ (r ++ (o ++ []))) ++ (b ++ e)
-whole s r o b e =
-    append-assoc (s ++ (r ++ o)) b e ∙ ap (λ (t : Text). (s ++ (r ++ t)) ++ (b ++ e)) (sym (append-nil o))
+whole s r o b e = simp (append-assoc, append-nil)
 
 pub rsi-text : (rcv org : Text) (s : ℕ)
     → ((ascii "CSM(MCL/RSI " ++ (field RCV .print rcv ++ field ORG .print org)) ++ field SVR .print s) ++ ascii ")"
@@ -77,7 +76,7 @@ esm-text rcv org n c =
     ∙ ap (λ (t : Text). head ++ t) (grouped p r (field ERF .print n) (ascii ")"))
   where
     grouped : (p r f e : Text) → ((p ++ r) ++ f) ++ e ≡ p ++ (r ++ (f ++ e))
-    grouped p r f e = append-assoc (p ++ r) f e ∙ append-assoc p r (f ++ e)
+    grouped p r f e = simp append-assoc
 
 pub rsm-text : (rcv org : Text)
     → ascii "CSM(MCL/RSM " ++ (field RCV .print rcv ++ field ORG .print org) ≡ unsealed-text (unsealed-rsm rcv org)
@@ -85,7 +84,7 @@ unfolding unsealed-text covered-part
 rsm-text rcv org = go (ascii "CSM(MCL/RSM ") (field RCV .print rcv) (field ORG .print org)
   where
     go : (s r o : Text) → s ++ (r ++ o) ≡ (s ++ (r ++ (o ++ []))) ++ []
-    go s r o = sym (append-nil (s ++ (r ++ (o ++ []))) ∙ ap (λ (t : Text). s ++ (r ++ t)) (append-nil o))
+    go s r o = simp append-nil
 
 pub ksm-text : (rcv org : Text) (k : Ksm)
     → ((ascii "CSM(MCL/KSM " ++ (field RCV .print rcv ++ field ORG .print org)) ++ keys-text (k .first) (k .two) (k .second))
@@ -102,9 +101,7 @@ ksm-text rcv org k =
     ∙ go (ascii "CSM(MCL/KSM " ++ (field RCV .print rcv ++ (field ORG .print org ++ []))) f s v d n
   where
     go : (h k l x y z : Text) → h ++ ((k ++ l) ++ (x ++ (y ++ z))) ≡ h ++ (k ++ (l ++ (x ++ (y ++ (z ++ [])))))
-    go h k l x y z =
-        ap (λ (t : Text). h ++ t) (append-assoc k l (x ++ (y ++ z)))
-        ∙ ap (λ (t : Text). h ++ (k ++ (l ++ (x ++ (y ++ t))))) (sym (append-nil z))
+    go h k l x y z = simp (append-assoc, append-nil)
 
 -- ---- their MACs are their own, and not part of what they cover
 

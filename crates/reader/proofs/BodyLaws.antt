@@ -38,10 +38,7 @@ seen-map h at f (some a) = refl
 known-only : {A : Type 0} (h : Head) (at : ℕ) (c : csm.Class) (f : A → Body) (d : Format A) (u : Text)
     → read-known c u ≡ under f (d .read u) → rest c .read u ≡ none
     → message-seen h at (whole-body c u) ≡ seen-as h at f (whole d u)
-known-only h at c f d u k e =
-    ap (λ (o : Option (Text × Text)). message-seen h at (bind (or-else (read-known c u) (under (option c) o)) at-end)) e
-    ∙ ap (λ (o : Option (Body × Text)). message-seen h at (bind o at-end)) (or-none (read-known c u) ∙ k)
-    ∙ ap (message-seen h at) (ends f (d .read u)) ∙ seen-map h at f (whole d u)
+known-only h at c f d u k e = rw (e, or-none (read-known c u), k, ends f (d .read u)) (seen-map h at f (whole d u))
 
 -- a rest
 option-seen : (h : Head) (at : ℕ) (c : csm.Class) (o : Option Text)

@@ -1,6 +1,5 @@
 pub mod RowLaws
 pub mod StageLaws
-pub mod LetterLaws
 pub mod OptionLaws
 pub mod BodyLaws
 pub mod ReadLaws

@@ -11,11 +11,11 @@ use lib.Seq.{take-all, drop-cons, length-take-le}
 use Rattle.octets.specs.Text.{Text, blank, all, free}
 use Rattle.octets.specs.Part.{before}
 use Rattle.octets.proofs.Parting.{before-fits, free-before, before-at}
-use Rattle.octets.proofs.Comparing.{same-self as same-refl}
 use Rattle.csm.specs.Format.{bind, value, plain, upto, at-end}
 use Rattle.csm.specs.Message.{text-char, ends-blank}
 use Rattle.csm.proofs.FormatLaws.{upto-read, upto-none}
 use Rattle.csm.proofs.FieldLaws.{below-at}
+use Rattle.csm.proofs.WordTests.{plain-value as plain-test}
 use Rattle.reader.specs.Stages.{any-rest, rest-seen, rest-body}
 use Rattle.fields.specs.declared.Class.{Class}
 use Rattle.reader.specs.declared.Head.{Head}
@@ -67,13 +67,7 @@ ends-empty (x ∷ s) e = absurd (omega arith)
 
 -- a piece that stands for itself is read if it passes its test
 pub plain-value : (p : Text → Bool) (w : Text) (b : Bool) → p w ≡ b → value (plain p) w ≡ cond b (some w) none
-plain-value p w b e =
-    ap (λ (z : Bool). cond (p w && z) (some w) none) (same-refl w)
-    ∙ ap (λ (z : Bool). cond z (some w) none) (last (p w) ∙ e)
-  where
-    last : (b : Bool) → b && true ≡ b
-    last true = refl
-    last false = refl
+plain-value p w b e = plain-test p w ∙ ap (λ (z : Bool). cond z (some w) none) e
 
 module _ (c : Class) (h : Head) (s : Text) (at end : ℕ) (is : end ≡ at + before 41 (drop at s)) where
   pub rest-missing : length s ≤ end → rest-body c h at (drop at s) ≡ message.Nothing
@@ -100,10 +94,8 @@ module _ (c : Class) (h : Head) (s : Text) (at end : ℕ) (is : end ≡ at + bef
       let u = drop at s in
       let n = before 41 u in
       let m : suc n < length u = omega (arith, is, length-drop at s) in
-      ap (λ (o : Option (Text × Text)). rest-seen c h at (bind o at-end))
-      (there l ∙ ap (λ (t : Text). bind (value (plain any-rest) (take n u)) (λ a. some (a, t)))
-      (drop-cons u (suc n) 0 m))
-      ∙ ap (rest-seen c h at) (go (value (plain any-rest) (take n u)) (getD u (suc n) 0) (drop (suc (suc n)) u))
+      rw (there l, drop-cons u (suc n) 0 m)
+      (ap (rest-seen c h at) (go (value (plain any-rest) (take n u)) (getD u (suc n) 0) (drop (suc (suc n)) u)))
     where
       go : (o : Option Text) (x : ℕ) (t : Text) → bind (bind o (λ a. some (a, x ∷ t))) at-end ≡ none
       go none x t = refl
@@ -120,13 +112,8 @@ module _ (c : Class) (h : Head) (s : Text) (at end : ℕ) (is : end ≡ at + bef
       let m : length u ≤ suc n = omega (arith, is, l, length-drop at s) in
       let size : length (take n u) ≡ end - at = length-take-le n u (before-fits 41 u) ∙ sym k in
       let e' : any-rest (take n u) ≡ b = ap (λ (i : ℕ). any-rest (take i u)) (sym k) ∙ e in
-      ap (λ (o : Option (Text × Text)). rest-seen c h at (bind o at-end))
-      (there (omega (arith, l))
-      ∙ ap (λ (t : Text). bind (value (plain any-rest) (take n u)) (λ a. some (a, t))) (drop-of-length-le u m))
-      ∙ ap (λ (o : Option Text). rest-seen c h at (bind (bind o (λ a. some (a, []))) at-end)) (plain-value any-rest
-      (take n u) b e')
-      ∙ pick (take n u) b
-      ∙ ap (λ (i : ℕ). cond b (message.Option (record { head = h; class = c; rest = record { at = at; length = i } })) message.Nothing) size
+      rw (there (omega (arith, l)), drop-of-length-le u m, plain-value any-rest (take n u) b e', ← size)
+      (pick (take n u) b)
     where
       pick : (w : Text) (b : Bool)
           → rest-seen c h at (bind (bind (cond b (some w) none) (λ a. some (a, []))) at-end)
@@ -136,11 +123,5 @@ module _ (c : Class) (h : Head) (s : Text) (at end : ℕ) (is : end ≡ at + bef
 
 -- ---- tags, tried in turn
 
--- the last of them
-pub or-none : (b : Bool) → b || false ≡ b
-or-none true = refl
-or-none false = refl
-
--- one before others
 pub or-both : {r x y p q : Bool} → r ≡ x || y → x ≡ p → y ≡ q → r ≡ p || q
 or-both e f g = e ∙ (λ i. f i || g i)

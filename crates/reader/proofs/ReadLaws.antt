@@ -1,6 +1,6 @@
 -- What a text is read as, from its first bytes, its class, its names and its body.
 use mathlib.Core.Path.{_≡_, refl, sym, ap, _∙_}
-use mathlib.Core.Bool.{Bool, true, false, cond, _&&_, true≢false}
+use mathlib.Core.Bool.{Bool, true, false, cond, _&&_, and-false, true≢false}
 use mathlib.Core.List.{[], _∷_}
 use mathlib.Core.Option.{Option, none, some}
 use Prim.Native.Nat.{ℕ, _≤_, _<_}
@@ -11,31 +11,22 @@ use borrow.Author.Tests.{lt-leb}
 use Rattle.octets.specs.Text.{Text, ascii, starts}
 use Rattle.octets.specs.Part.{found}
 use Rattle.octets.proofs.Comparing.{starts-fits}
-use Rattle.csm.specs.Format.{bind, at-end, whole}
-use Rattle.csm.specs.Fields.{MCL, RCV, ORG, class-text, field}
+use Rattle.csm.specs.Format.{bind, at-end}
+use Rattle.csm.specs.Fields.{MCL, RCV, ORG, field}
 use Rattle.csm.specs.Fields.{RSI, KSM, RSM, ESM, DSM, ERS, RFS, RTR}
 use Rattle.csm.specs.Fields as csm
-use Rattle.csm.specs.Message.{Row, one, Values, fields, head-row, head, Head as CsmHead, Body, Reading, class-of as class-in, read-body}
-use Rattle.csm.specs.Message.{with-body, read-after, message, fits, read}
+use Rattle.csm.specs.Message.{Row, one, Values, fields, head-row, head, Body, Reading, class-of as class-in, read-body}
+use Rattle.csm.specs.Message.{with-body, fits, read}
 use Rattle.csm.proofs.TextLaws.{true-within}
+use Rattle.csm.proofs.FieldLaws.{class-size}
 use Rattle.fields.specs.Seen.{taken, class-of, class-seen}
 use Rattle.reader.specs.Seen.{next-at, body-seen, seen}
-use Rattle.reader.specs.Stages.{taken-at, names-with, names-at, message-seen, whole-body, class-named, body}
+use Rattle.reader.specs.Stages.{taken-at, names-with, names-at, message-seen, class-named, body}
 use Rattle.fields.specs.declared.Class.{Class}
 use Rattle.reader.specs.declared.Message.the-variants as message-is
 use Rattle.reader.proofs.RowLaws.{next-read}
 
 -- ---- the head
-
-class-size : (c : csm.Class) → length (class-text c) ≡ 3
-class-size RSI = refl
-class-size KSM = refl
-class-size RSM = refl
-class-size ESM = refl
-class-size DSM = refl
-class-size ERS = refl
-class-size RFS = refl
-class-size RTR = refl
 
 -- behind every class RCV starts at 12
 class-end : (c : csm.Class) → next-at MCL 4 (some c) ≡ 12
@@ -64,9 +55,7 @@ either-none false = refl
 
 read-none : (s : Text) → head .read s ≡ none → seen (read s) ≡ message-is.Nothing
 unfolding read seen
-read-none s e =
-    ap (λ (o : Option (CsmHead × Text)). seen (cond (fits s) (bind (bind o read-after) at-end) none)) e
-    ∙ ap seen (either-none (fits s))
+read-none s e = rw e (ap seen (either-none (fits s)))
 
 head-after : (s : Text) → starts (ascii "CSM(") s ≡ true → head .read s ≡ fields head-row [] .read (drop 4 s)
 head-after s e = rw e
@@ -114,13 +103,7 @@ names-read s at = first (field RCV .read (drop at s)) refl
 module _ (s : Text) where
   pub read-long : 512 < length s → seen (read s) ≡ message-is.Nothing
   unfolding read seen
-  read-long l =
-      let n : leb (length s) 512 ≡ false = lt-leb (length s) 512 l in
-      ap (λ (b : Bool). seen (cond (leb 1 (length s) && b) (whole message s) none)) n ∙ ap seen (no (leb 1 (length s)))
-    where
-      no : (b : Bool) → cond (b && false) (whole message s) none ≡ none
-      no true = refl
-      no false = refl
+  read-long l = rw (lt-leb (length s) 512 l, and-false (leb 1 (length s)))
 
   pub read-front : starts (ascii "CSM(") s ≡ false → seen (read s) ≡ message-is.Nothing
   read-front e = read-none s (rw e)
@@ -169,11 +152,7 @@ module _ (s : Text) where
             let n = names-with 12 (some x) (some y) in
             let u = drop (n .next) s in
             let z : head .read s ≡ some ((c, (x, (y, tt))), u) = head-after s front ∙ rw (class-read c t r, e) in
-            ap (λ (b : Bool). seen (cond b (whole message s) none)) f
-            ∙ ap (λ (o : Option (CsmHead × Text)). seen (bind (bind o read-after) at-end)) z
-            ∙ seen-body c x y (read-body c u)
-            ∙ ap (λ (o : Option csm.Class). message-seen (n .head) (n .next) (bind o (λ k. whole-body k u)))
-            (sym (class-back c))
+            rw (f, z, class-back c) (seen-body c x y (read-body c u))
 
     pub read-named : length s ≤ 512 → names-at s 12 .there ≡ true → let n = names-at s 12 in
         seen (read s) ≡ body (class-seen (taken-at MCL s 4)) (n .head) (n .next) (drop (n .next) s)

@@ -3,11 +3,9 @@ use mathlib.Core.Path.{_≡_, refl, sym, ap, _∙_}
 use mathlib.Core.Bool.{Bool, true, false, cond, _&&_}
 use mathlib.Core.List.{[], _∷_, _++_, append-assoc}
 use mathlib.Core.Option.{Option, none, some}
-use Prim.Native.Nat.{ℕ, suc, _+_}
-use native.Mathlib.Omega.{arith}
+use Prim.Native.Nat.{ℕ}
 use lib.Dec.{eqb}
-use lib.ListN.{length, drop}
-use lib.Seq.{drop-drop, drop-at}
+use lib.ListN.{drop}
 use Rattle.octets.specs.Text.{Text, ascii, blank, same}
 use Rattle.csm.specs.Format.{Format, bind, just, as-form, such-that, at-end, whole}
 use Rattle.csm.specs.Fields.{Field, Contents, contents, tag, field}
@@ -15,6 +13,7 @@ use Rattle.csm.specs.Fields.{MCL, RCV, ORG, SVR, KD, IV, EDK, CTP, CTR, ERF, MA
 use Rattle.csm.specs.Message.{Row, one, opt, Values, closed}
 use Rattle.csm.proofs.FieldLaws.{field-lawful}
 use Rattle.fields.specs.Seen.{taken, inner}
+use Rattle.fields.proofs.PieceLaws.{Stands, stands}
 use Rattle.reader.specs.Seen.{next-at}
 use Rattle.reader.specs.Stages.{taken-at}
 
@@ -99,31 +98,14 @@ contents-inner MAC a = refl
 contents-inner EDC a = refl
 
 -- a field at the front of what stands at a place: its contents, and what follows it
-pub record Stands (f : Field) (s : Text) (at : ℕ) (a : Contents f) (t : Text) : Type 0 where
-  pub contents : drop (at + length (tag f)) s ≡ inner f a ++ blank ∷ t
-  pub rest : drop (next-at f at (some a)) s ≡ t
-
-pub stands : (f : Field) (s : Text) (at : ℕ) (a : Contents f) (t : Text) → drop at s ≡ field f .print a ++ t
-    → Stands f s at a t
-stands f s at a t e =
-    let w = inner f a in
-    let u : drop (at + length (tag f)) s ≡ w ++ blank ∷ t =
-    sym (drop-drop (length (tag f)) at s)
-    ∙ ap (drop (length (tag f))) (e ∙ ap (λ (c : Text). (tag f ++ c) ++ t) (contents-inner f a) ∙ grouped (tag f) w t)
-    ∙ drop-at (tag f) (w ++ blank ∷ t) (length (tag f)) refl in
-    let m : at + length (tag f) + length w + 1 ≡ at + length (tag f) + suc (length w) = omega arith in
-    record {
-      contents = u;
-      rest = ap (λ (n : ℕ). drop n s) m ∙ sym (drop-drop (suc (length w)) (at + length (tag f)) s)
-          ∙ ap (drop (suc (length w))) u ∙ behind w;
-    }
+pub field-stands : (f : Field) (s : Text) (at : ℕ) (a : Contents f) (t : Text) → drop at s ≡ field f .print a ++ t
+    → Stands (tag f) s at (inner f a) t
+field-stands f s at a t e =
+    stands (tag f) s at (inner f a) t
+    (e ∙ ap (λ (c : Text). (tag f ++ c) ++ t) (contents-inner f a) ∙ grouped (tag f) (inner f a) t)
   where
     grouped : (g w t : Text) → (g ++ (w ++ blank ∷ [])) ++ t ≡ g ++ (w ++ blank ∷ t)
     grouped g w t = simp append-assoc
-
-    behind : (w : Text) → drop (suc (length w)) (w ++ blank ∷ t) ≡ t
-    behind [] = refl
-    behind (x ∷ w) = behind w
 
 -- a value that has to be there, before others
 abbrev pub need : {A B : Type 0} → Option A → Option B → Option (A × B)
@@ -140,7 +122,7 @@ gather (opt f ∷ rs) s at = map (λ b. (taken-at f s at, b)) (gather rs s (next
 pub next-read : (f : Field) (s : Text) (at : ℕ) (a : Contents f) (t : Text) → field f .read (drop at s) ≡ some (a, t)
     → field f .read (drop at s) ≡ some (a, drop (next-at f at (some a)) s)
 next-read f s at a t e =
-    e ∙ ap (λ (u : Text). some (a, u)) (sym (stands f s at a t (field-lawful f .back (drop at s) a t e .1) .rest))
+    e ∙ ap (λ (u : Text). some (a, u)) (sym (field-stands f s at a t (field-lawful f .back (drop at s) a t e .1) .rest))
 
 pub row-walk : (rs : Row) (s : Text) (at : ℕ) → whole (closed rs) (drop at s) ≡ gather rs s at
 row-walk [] s at = end-step (drop at s) (same (drop at s) (ascii ")")) refl

@@ -20,7 +20,7 @@ use Rattle.csm.proofs.MessageLaws.{read-back}
 use Rattle.fields.specs.Seen.{inner, name-at, kd-of}
 use Rattle.reader.specs.Seen.{span-at, next-at, Spans, spans, row-end, body-place, covered-span}
 use Rattle.reader.specs.Claims.{text-or-empty, Kd-parts}
-use Rattle.reader.proofs.RowLaws.{stands}
+use Rattle.reader.proofs.RowLaws.{field-stands}
 
 -- ---- the one law: a text behind a front stands at the front's length
 
@@ -57,7 +57,7 @@ module _ (s end t : Text) where
       → part s (span-at f at (some a)) ≡ inner f a
   unfolding part
   field-part f at a u e =
-      ap (take (length (inner f a))) (stands f s at a u e .contents)
+      ap (take (length (inner f a))) (field-stands f s at a u e .contents)
       ∙ take-at (inner f a) (blank ∷ u) (length (inner f a)) refl
 
   pub laid : (rs : Row) (at : ℕ) (v : Values rs) → drop at s ≡ fields rs end .print v ++ t
@@ -67,7 +67,7 @@ module _ (s end t : Text) where
   laid (one f ∷ rs) at (a, v) e =
       let u = fields rs end .print v in
       let k = e ∙ append-assoc (field f .print a) u t in
-      let r = laid rs (next-at f at (some a)) v (stands f s at a (u ++ t) k .rest) in
+      let r = laid rs (next-at f at (some a)) v (field-stands f s at a (u ++ t) k .rest) in
       record { parts = (field-part f at a (u ++ t) k, r .parts); rest = r .rest }
   laid (opt f ∷ rs) at (none, v) e =
       let r = laid rs at v e in
@@ -75,7 +75,7 @@ module _ (s end t : Text) where
   laid (opt f ∷ rs) at (some a, v) e =
       let u = fields rs end .print v in
       let k = e ∙ append-assoc (field f .print a) u t in
-      let r = laid rs (next-at f at (some a)) v (stands f s at a (u ++ t) k .rest) in
+      let r = laid rs (next-at f at (some a)) v (field-stands f s at a (u ++ t) k .rest) in
       record { parts = (field-part f at a (u ++ t) k, r .parts); rest = r .rest }
 
 -- the head of a text that is read, and the body behind it
@@ -114,28 +114,17 @@ module _ (s : Text) (at : ℕ) where
   unfolding part
   names-there x h l p none none e = (refl, refl)
   names-there x h l p (some v) none e =
-      (name-there h l p [] v x (e ∙ one h (sub (mark p)) v x) (cond p (at + 19) (at + 18)) (omega arith), refl)
-    where
-      one : (h a v x : Text) → (h ++ (a ++ sub v)) ++ x ≡ h ++ (a ++ (sub [] ++ (v ++ x)))
-      one h a v x = simp append-assoc
+      (name-there h l p [] v x (simp append-assoc at e) (cond p (at + 19) (at + 18)) (omega arith), refl)
   names-there x h l p none (some w) e = (
     refl,
-    name-there h l p (dot ∷ []) w x (e ∙ two h (sub (mark p)) w x) (cond p (at + 19) (at + 18) + 0 + 1)
-        (omega arith),
+    name-there h l p (dot ∷ []) w x (simp append-assoc at e) (cond p (at + 19) (at + 18) + 0 + 1) (omega arith),
   )
-    where
-      two : (h a w x : Text) → (h ++ (a ++ (sub [] ++ sub w))) ++ x ≡ h ++ (a ++ (sub (dot ∷ []) ++ (w ++ x)))
-      two h a w x = simp append-assoc
   names-there x h l p (some v) (some w) e = (
-    name-there h l p [] v (sub w ++ x) (e ∙ one h (sub (mark p)) v w x) (cond p (at + 19) (at + 18))
-        (omega arith),
+    name-there h l p [] v (sub w ++ x) (simp append-assoc at e) (cond p (at + 19) (at + 18)) (omega arith),
     name-there h l p (v ++ dot ∷ []) w x (e ∙ two h (sub (mark p)) v w x)
         (cond p (at + 19) (at + 18) + length v + 1) (omega (arith, length-append v (dot ∷ []))),
   )
     where
-      one : (h a v w x : Text) → (h ++ (a ++ (sub v ++ sub w))) ++ x ≡ h ++ (a ++ (sub [] ++ (v ++ (sub w ++ x))))
-      one h a v w x = simp append-assoc
-
       two : (h a v w x : Text)
           → (h ++ (a ++ (sub v ++ sub w))) ++ x ≡ h ++ (a ++ (sub (v ++ dot ∷ []) ++ (w ++ x)))
       two h a v w x = simp append-assoc

@@ -1,5 +1,5 @@
 -- What each class is read as, from what the code has of its fields.
-use mathlib.Core.Path.{_≡_, refl, sym, ap, _∙_}
+use mathlib.Core.Path.{_≡_, refl, ap, _∙_}
 use mathlib.Core.Bool.{Bool, true, false, cond, _&&_}
 use mathlib.Core.Option.{Option, none, some}
 use Prim.Native.Nat.{ℕ}
@@ -74,15 +74,11 @@ module _ (h : Head) (s : Text) where
       → rsm-body h at (drop at s)
       ≡ cond b (message.Rsm (record { head = h; mac = numeral-of m })) message.Nothing
   unfolding rsm-body
-  rsm-step at {m} e b q =
-      let of : NumberField → Message =
-      λ m. cond (m .place .there && ended s (m .place .next))
-      (message.Rsm (record { head = h; mac = numeral-of m })) message.Nothing in
-      ap (seen-as h at rsm)
+  rsm-step at e b q =
+      rw (← q, e)
+      (ap (seen-as h at rsm)
       (form-whole rsm-record rsm-values (closed rsm-row) (drop at s) ∙ ap (map rsm-record) (row-walk rsm-row s at))
-      ∙ rsm-out at (taken-at MAC s at) (ended s (next-at MAC at (taken-at MAC s at))) ∙ ap of (sym e)
-      ∙ ap (λ (b : Bool). cond b (message.Rsm (record { head = h; mac = numeral-of m }))
-      message.Nothing) q
+      ∙ rsm-out at (taken-at MAC s at) (ended s (next-at MAC at (taken-at MAC s at))))
 
   -- ---- RSI
 
@@ -108,16 +104,13 @@ module _ (h : Head) (s : Text) where
       → (b : Bool) → v .place .there && ended s (e .place .next) ≡ b
       → rsi-body h at (drop at s) ≡ cond b (rsi-join v e) message.Nothing
   unfolding rsi-body
-  rsi-step at {v} {e} i j b q =
-      let of : NumberField → NumberField → Message =
-      λ v e. cond (v .place .there && ended s (e .place .next)) (rsi-join v e) message.Nothing in
-      let k = j ∙ ap (λ (v : NumberField). edc-at (v .place .next)) i in
+  rsi-step at i j b q =
       let o = taken-at SVR s at in
       let p = taken-at EDC s (next-at SVR at o) in
-      ap (seen-as h at rsi)
+      rw (← q, j, i)
+      (ap (seen-as h at rsi)
       (form-whole rsi-record rsi-values (closed rsi-row) (drop at s) ∙ ap (map rsi-record) (row-walk rsi-row s at))
-      ∙ rsi-out at o p (ended s (next-at EDC (next-at SVR at o) p)) ∙ (λ x. of (sym i x) (sym k x))
-      ∙ ap (λ (b : Bool). cond b (rsi-join v e) message.Nothing) q
+      ∙ rsi-out at o p (ended s (next-at EDC (next-at SVR at o) p)))
 
   -- ---- ESM
 
@@ -161,13 +154,7 @@ module _ (h : Head) (s : Text) where
       && agree (l .value) (c .place .there) (r .place .there) ≡ b
       → esm-body h at (drop at s) ≡ cond b (esm-join c r l e) message.Nothing
   unfolding esm-body
-  esm-step at {c} {r} {l} {e} i₁ e₂ e₃ e₄ b q =
-      let of : NumberField → NumberField → NumberField → NumberField → Message =
-      λ c r l e. cond ((l .place .there && ended s (e .place .next))
-      && agree (l .value) (c .place .there) (r .place .there)) (esm-join c r l e) message.Nothing in
-      let i₂ = e₂ ∙ ap (λ (c : NumberField). ctr-at (c .place .next)) i₁ in
-      let i₃ = e₃ ∙ ap (λ (c : NumberField). erf-at (c .place .next)) i₂ in
-      let i₄ = e₄ ∙ ap (λ (c : NumberField). edc-at (c .place .next)) i₃ in
+  esm-step at i j k l b q =
       let o₁ = taken-at CTP s at in
       let n₂ = next-at CTP at o₁ in
       let o₂ = taken-at CTR s n₂ in
@@ -175,13 +162,12 @@ module _ (h : Head) (s : Text) where
       let o₃ = taken-at ERF s n₃ in
       let n₄ = next-at ERF n₃ o₃ in
       let o₄ = taken-at EDC s n₄ in
-      ap (seen-as h at esm)
+      rw (← q, l, k, j, i)
+      (ap (seen-as h at esm)
       (such-whole counts-with-P (as-form esm-record esm-values (closed esm-row)) (drop at s)
       ∙ ap (passing counts-with-P) (form-whole esm-record esm-values (closed esm-row) (drop at s)
       ∙ ap (map esm-record) (row-walk esm-row s at)))
-      ∙ esm-out at o₁ o₂ o₃ o₄ (ended s (next-at EDC n₄ o₄))
-      ∙ (λ x. of (sym i₁ x) (sym i₂ x) (sym i₃ x) (sym i₄ x))
-      ∙ ap (λ (b : Bool). cond b (esm-join c r l e) message.Nothing) q
+      ∙ esm-out at o₁ o₂ o₃ o₄ (ended s (next-at EDC n₄ o₄)))
 
   -- ---- KSM
 
@@ -220,15 +206,7 @@ module _ (h : Head) (s : Text) where
       → (b : Bool) → k .place .there && (c .place .there && (m .place .there && ended s (m .place .next))) ≡ b
       → ksm-body h at (drop at s) ≡ cond b (ksm-join k j i d c m) message.Nothing
   unfolding ksm-body
-  ksm-step at {k} {j} {i} {d} {c} {m} i₁ e₂ e₃ e₄ e₅ e₆ b q =
-      let of : KeyField → KeyField → Place → Place → NumberField → NumberField → Message =
-      λ k j i d c m. cond (k .place .there && (c .place .there && (m .place .there && ended s (m .place .next))))
-      (ksm-join k j i d c m) message.Nothing in
-      let i₂ = e₂ ∙ ap (λ (k : KeyField). kd-field-at (k .place .next)) i₁ in
-      let i₃ = e₃ ∙ ap (λ (k : KeyField). iv-at (k .place .next)) i₂ in
-      let i₄ = e₄ ∙ ap (λ (p : Place). edk-at (p .next)) i₃ in
-      let i₅ = e₅ ∙ ap (λ (p : Place). ctp-at (p .next)) i₄ in
-      let i₆ = e₆ ∙ ap (λ (n : NumberField). mac-at (n .place .next)) i₅ in
+  ksm-step at i j k l m n b q =
       let o₁ = taken-at KD s at in
       let n₂ = next-at KD at o₁ in
       let o₂ = taken-at KD s n₂ in
@@ -240,8 +218,7 @@ module _ (h : Head) (s : Text) where
       let o₅ = taken-at CTP s n₅ in
       let n₆ = next-at CTP n₅ o₅ in
       let o₆ = taken-at MAC s n₆ in
-      ap (seen-as h at ksm)
+      rw (← q, n, m, l, k, j, i)
+      (ap (seen-as h at ksm)
       (form-whole ksm-record ksm-values (closed ksm-row) (drop at s) ∙ ap (map ksm-record) (row-walk ksm-row s at))
-      ∙ ksm-out at o₁ o₂ o₃ o₄ o₅ o₆ (ended s (next-at MAC n₆ o₆))
-      ∙ (λ x. of (sym i₁ x) (sym i₂ x) (sym i₃ x) (sym i₄ x) (sym i₅ x) (sym i₆ x))
-      ∙ ap (λ (b : Bool). cond b (ksm-join k j i d c m) message.Nothing) q
+      ∙ ksm-out at o₁ o₂ o₃ o₄ o₅ o₆ (ended s (next-at MAC n₆ o₆)))

@@ -10,18 +10,14 @@ use Rattle.messages.proofs.write_esm.Tie as tie
 
 returns : tie.Need-returns
 unfolding esm-reading
-returns c =
-    let a = c .before .before .before .before .before .args in
-    not-addressed (esm-reading (a .rcv .now) (a .org .now) (a .letters) (a .counts)) (a .reply .now) refl
-    (sym (c .before .is-addressed .ensures) ∙ not-true _ (c .if1 .taken))
+returns c = not-addressed _ _ refl (sym (c .before .is-addressed .ensures) ∙ not-true _ (c .if1 .taken))
 
 returns-2 : tie.Need-returns-2
 unfolding esm-reading
 returns-2 c =
     let a = c .before .before .before .before .before .before .before .args in
     let k = sym (c .before .is-error .ensures) ∙ not-true _ (c .if2 .taken) in
-    not-legal (esm-reading (a .rcv .now) (a .org .now) (a .letters) (a .counts)) (a .reply .now) refl
-    (esm-legal (a .rcv .now) (a .org .now) (a .letters) (a .counts) ∙ k)
+    not-legal _ _ refl (esm-legal (a .rcv .now) (a .org .now) (a .letters) (a .counts) ∙ k)
 
 put-esm-requires : tie.Need-put-esm-requires
 put-esm-requires c κs =
@@ -37,7 +33,7 @@ returns-3 c =
     let a = v .before .before .before .before .before .args in
     let k = sym (u .before .is-error .ensures) ∙ not-false _ (u .if2 .left) in
     let h = sym (v .before .is-addressed .ensures) ∙ not-false _ (v .if1 .left) in
-    done (esm-reading (a .rcv .now) (a .org .now) (a .letters) (a .counts)) (a .reply .now) refl h
+    done _ _ refl h
     (esm-legal (a .rcv .now) (a .org .now) (a .letters) (a .counts) ∙ k) (c .before .before .put-esm .ensures)
 
 pub write-esm-spec : {M : Type 1} → statement M

@@ -10,18 +10,14 @@ use Rattle.messages.proofs.write_ksm.Tie as tie
 
 returns : tie.Need-returns
 unfolding ksm-reading
-returns c =
-    let a = c .before .before .before .before .before .args in
-    not-addressed (ksm-reading (a .rcv .now) (a .org .now) (a .ksm) (a .mac-key)) (a .reply .now) refl
-    (sym (c .before .is-addressed .ensures) ∙ not-true _ (c .if1 .taken))
+returns c = not-addressed _ _ refl (sym (c .before .is-addressed .ensures) ∙ not-true _ (c .if1 .taken))
 
 returns-2 : tie.Need-returns-2
 unfolding ksm-reading
 returns-2 c =
     let a = c .before .before .before .before .before .before .before .args in
     let k = sym (c .before .is-ksm .ensures) ∙ not-true _ (c .if2 .taken) in
-    not-legal (ksm-reading (a .rcv .now) (a .org .now) (a .ksm) (a .mac-key)) (a .reply .now) refl
-    (ksm-body-legal (a .rcv .now) (a .org .now) (a .ksm) (a .mac-key) ∙ k)
+    not-legal _ _ refl (ksm-body-legal (a .rcv .now) (a .org .now) (a .ksm) (a .mac-key) ∙ k)
 
 put-ksm-requires : tie.Need-put-ksm-requires
 unfolding ksm-reading
@@ -44,7 +40,7 @@ returns-3 c =
     let a = v .before .before .before .before .before .args in
     let k = sym (u .before .is-ksm .ensures) ∙ not-false _ (u .if2 .left) in
     let h = sym (v .before .is-addressed .ensures) ∙ not-false _ (v .if1 .left) in
-    done (ksm-reading (a .rcv .now) (a .org .now) (a .ksm) (a .mac-key)) (a .reply .now) refl h
+    done _ _ refl h
     (ksm-body-legal (a .rcv .now) (a .org .now) (a .ksm) (a .mac-key) ∙ k) (c .before .before .put-ksm .ensures)
 
 pub write-ksm-spec : {M : Type 1} → statement M

@@ -11,17 +11,13 @@ use Rattle.messages.proofs.write_rsi.Tie as tie
 
 returns : tie.Need-returns
 unfolding rsi-reading
-returns c =
-    let a = c .before .before .before .before .before .args in
-    not-addressed (rsi-reading (a .rcv .now) (a .org .now) (a .service)) (a .reply .now) refl
-    (sym (c .before .is-addressed .ensures) ∙ not-true _ (c .if1 .taken))
+returns c = not-addressed _ _ refl (sym (c .before .is-addressed .ensures) ∙ not-true _ (c .if1 .taken))
 
 returns-2 : tie.Need-returns-2
 unfolding rsi-reading
 returns-2 c =
     let a = c .before .before .before .before .before .before .args in
-    not-legal (rsi-reading (a .rcv .now) (a .org .now) (a .service)) (a .reply .now) refl
-    (rsi-legal (a .rcv .now) (a .org .now) (a .service) ∙ le-ltb (a .service) 12 (omega arith))
+    not-legal _ _ refl (rsi-legal (a .rcv .now) (a .org .now) (a .service) ∙ le-ltb (a .service) 12 (omega arith))
 
 returns-3 : tie.Need-returns-3
 unfolding rsi-reading
@@ -29,8 +25,7 @@ returns-3 c =
     let v = c .before .before .before .before .before in
     let a = v .before .before .before .before .before .args in
     let h = sym (v .before .is-addressed .ensures) ∙ not-false _ (v .if1 .left) in
-    done (rsi-reading (a .rcv .now) (a .org .now) (a .service)) (a .reply .now) refl h
-    (rsi-legal (a .rcv .now) (a .org .now) (a .service) ∙ lt-ltb (a .service) 12 (omega arith))
+    done _ _ refl h (rsi-legal (a .rcv .now) (a .org .now) (a .service) ∙ lt-ltb (a .service) 12 (omega arith))
     (c .before .before .put-rsi .ensures)
 
 pub write-rsi-spec : {M : Type 1} → statement M

@@ -10,10 +10,7 @@ use Rattle.messages.proofs.write_rsm.Tie as tie
 
 returns : tie.Need-returns
 unfolding rsm-reading
-returns c =
-    let a = c .before .before .before .before .before .args in
-    not-addressed (rsm-reading (a .rcv .now) (a .org .now) (a .mac-key)) (a .reply .now) refl
-    (sym (c .before .is-addressed .ensures) ∙ not-true _ (c .if1 .taken))
+returns c = not-addressed _ _ refl (sym (c .before .is-addressed .ensures) ∙ not-true _ (c .if1 .taken))
 
 put-rsm-requires : tie.Need-put-rsm-requires
 unfolding rsm-reading
@@ -29,8 +26,7 @@ returns-2 c =
     let v = c .before .before .before .before in
     let a = v .before .before .before .before .before .args in
     let h = sym (v .before .is-addressed .ensures) ∙ not-false _ (v .if1 .left) in
-    done (rsm-reading (a .rcv .now) (a .org .now) (a .mac-key)) (a .reply .now) refl h
-    (rsm-legal (a .rcv .now) (a .org .now) (a .mac-key)) (c .before .before .put-rsm .ensures)
+    done _ _ refl h (rsm-legal (a .rcv .now) (a .org .now) (a .mac-key)) (c .before .before .put-rsm .ensures)
 
 pub write-rsm-spec : {M : Type 1} → statement M
 write-rsm-spec =

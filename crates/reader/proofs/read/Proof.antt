@@ -2,16 +2,12 @@
 use mathlib.Core.Path.{sym, ap, _∙_}
 use native.Mathlib.Omega.{arith}
 use borrow.Author.Tests.{not-true, not-false}
-use lib.ListN.{drop}
-use Rattle.reader.specs.Stages.{names-at, body}
+use Rattle.reader.specs.Stages.{names-at}
 use Rattle.reader.specs.declared.Names.{Names}
 use Rattle.reader.proofs.ReadLaws.{read-long, read-front, read-nameless, read-named}
 use borrow.Author.Needs.{needs}
 use Rattle.reader.proofs.read.Statement.{statement}
 use Rattle.reader.proofs.read.Tie as tie
-
-returns : tie.Need-returns
-returns c = sym (read-long (c .before .before .args .text .now) (omega arith))
 
 returns-2 : tie.Need-returns-2
 returns-2 c =
@@ -22,27 +18,23 @@ returns-3 : tie.Need-returns-3
 returns-3 c =
     let n = c .before .before in
     let k = n .before in
-    let s = k .before .before .before .before .before .args .text .now in
     let front = sym (k .before .starts .ensures) ∙ not-false _ (k .if2 .left) in
-    sym (read-nameless s front (ap (λ (n : Names). n .there) (sym (n .names-at .ensures)) ∙ not-true _ (c .if3 .taken)))
+    sym (read-nameless _ front (rw (← n .names-at .ensures) (not-true _ (c .if3 .taken))))
 
 returns-4 : tie.Need-returns-4
 returns-4 c =
     let n = c .before .before .before .before .before in
     let k = n .before in
-    let s = k .before .before .before .before .before .args .text .now in
     let front = sym (k .before .starts .ensures) ∙ not-false _ (k .if2 .left) in
     let there = ap (λ (n : Names). n .there) (sym (n .names-at .ensures)) ∙ not-false _ (c .before .before .before .if3 .left) in
-    c .body-at .ensures
-    ∙ (λ i. body (c .before .class-field .ensures i) (n .names-at .ensures i .head) (n .names-at .ensures i .next)
-    (drop (n .names-at .ensures i .next) s))
-    ∙ sym (read-named s front (k .before .before .before .if1 .left) there)
+    rw (c .body-at .ensures, c .before .class-field .ensures, n .names-at .ensures)
+    (sym (read-named _ front (k .before .before .before .if1 .left) there))
 
 pub read-spec : {M : Type 1} → statement M
 read-spec =
     tie.close
     (tie.spec
-    returns
+    (λ c. sym (read-long (c .before .before .args .text .now) (omega arith)))
     (λ c. search needs)
     (λ c κs. search needs)
     returns-2

@@ -15,9 +15,6 @@ returns c =
     let w = a .w .now in
     take-all (length w - (a .n + 1)) (drop (a .n + 1) w) (omega (arith, length-drop (a .n + 1) w))
 
-returns-2 : tie.Need-returns-2
-returns-2 c = let a = c .before .before .args in sym (drop-end (a .w .now) (a .n + 1) (omega arith))
-
 pub behind-spec : {M : Type 1} → statement M
 behind-spec =
     tie.close
@@ -28,4 +25,4 @@ behind-spec =
     (λ c. search needs)
     returns
     (λ c. search needs)
-    returns-2)
+    (λ c. let a = c .before .before .args in sym (drop-end (a .w .now) (a .n + 1) (omega arith))))

@@ -3,17 +3,15 @@ use mathlib.Core.Path.{_≡_, sym, ap, _∙_}
 use mathlib.Core.Bool.{Bool, true, false}
 use Prim.Native.Nat.{ℕ, _+_, _^_, _<_}
 use native.Mathlib.Omega.{arith}
-use lib.ListN.{length, take, drop}
+use lib.ListN.{length, take}
 use borrow.Author.Tests.{not-true, not-false}
-use Rattle.octets.specs.Text.{Text, dot, is-run}
-use Rattle.octets.specs.Part.{before, nowhere}
+use Rattle.octets.specs.Text.{Text, is-run}
+use Rattle.octets.specs.Part.{before}
 use Rattle.octets.specs.declared.Span.{Span}
 use Rattle.csm.specs.Format.{value}
-use Rattle.csm.specs.Fields.{numeral, split, kd}
-use Rattle.fields.specs.Steps.{key-seen, subfields-seen}
-use Rattle.fields.specs.declared.Kd.{Kd}
-use Rattle.fields.specs.declared.keys.Keyed.the-variants as key
-use Rattle.fields.specs.declared.keys.Subfields.the-variants.{Are}
+use Rattle.csm.specs.Fields.{numeral, kd}
+use Rattle.fields.specs.Steps.{key-seen}
+use Rattle.fields.specs.declared.keys.Subfields.{Subfields}
 use Rattle.fields.proofs.DigitLaws.{digits-of}
 use Rattle.fields.proofs.KeyLaws.{behind-dot, keyed, key-none, key-alone, key-more}
 use borrow.Author.Needs.{needs}
@@ -28,8 +26,8 @@ digits-are c b e = ap (is-run 70 16 16) (sym (c .before .front .ensures)) ∙ sy
 returns : tie.Need-returns
 returns c =
     let k = c .before .before .before in
-    let no = digits-are (c .before) false (not-true _ (c .if1 .taken)) in
-    sym (key-none (k .before .before .args .at) (k .before .before .args .w .now) _ (k .until .ensures) no)
+    let a = k .before .before .args in
+    sym (key-none (a .at) (a .w .now) _ (k .until .ensures) (digits-are (c .before) false (not-true _ (c .if1 .taken))))
 
 yes : (c : tie.Else1) → let k = c .before .before .before in
     is-run 70 16 16 (take (k .until .result) (k .before .before .args .w .now)) ≡ true
@@ -54,16 +52,8 @@ returns-2 c =
     let d = c .before .before in
     let k = d .before .before .before .before in
     let a = k .before .before .args in
-    let w = a .w .now in
-    sym (key-alone (a .at) w _ (k .until .ensures) (c .before .if2 .taken) true (yes (d .before))
-    ∙ ap (λ (n : ℕ). keyed true n (all-of (a .at) w) (Are false nowhere nowhere)) (key-is d)
-    ∙ ap (λ (n : Kd). key.Is (record {
-      key = d .numeral .result;
-      p = n .p;
-      contents = all-of (a .at) w;
-      idk1 = n .idk1;
-      idk2 = n .idk2;
-    })) (sym (c .no-key .ensures)))
+    rw (c .no-key .ensures, ← key-is d)
+    (sym (key-alone (a .at) (a .w .now) _ (k .until .ensures) (c .before .if2 .taken) true (yes (d .before))))
 
 -- what stands behind the key has its place
 room : (c : tie.After-behind) → let k = c .before .before .before .before .before .before in
@@ -78,46 +68,20 @@ room c =
       ap length (c .behind .ensures),
     )
 
-add-mark-and-names : tie.Need-add-mark-and-names
-add-mark-and-names c = omega (arith, room c)
-
-add-mark-and-names-2 : tie.Need-add-mark-and-names-2
-add-mark-and-names-2 c = omega (arith, room c)
-
-mark-and-names-requires : tie.Need-mark-and-names-requires
-mark-and-names-requires c κs = room c
-
 -- the key and what its subfields give
-behind-key : (c : tie.After-mark-and-names) → let d = c .before .before .before in
+behind-key : (c : tie.After-mark-and-names) {s : Subfields} → c .mark-and-names .result ≡ s
+    → let d = c .before .before .before in
     let k = d .before .before .before .before in let a = k .before .before .args in
-    key-seen (a .at) (value kd (a .w .now))
-    ≡ keyed true (d .numeral .result) (all-of (a .at) (a .w .now)) (c .mark-and-names .result)
-behind-key c =
+    key-seen (a .at) (value kd (a .w .now)) ≡ keyed true (d .numeral .result) (all-of (a .at) (a .w .now)) s
+behind-key c e =
     let d = c .before .before .before in
     let k = d .before .before .before .before in
     let a = k .before .before .args in
-    let w = a .w .now in
     let n = k .until .result in
-    let o = all-of (a .at) w in
-    key-more (a .at) w n (k .until .ensures) (c .before .before .if2 .left) (yes (d .before))
-    ∙ ap (λ (m : ℕ). keyed true m o (subfields-seen (a .at + n + 1 + before dot (drop (n + 1) w) + 1) (split (drop (n + 1) w))))
-    (key-is d)
-    ∙ ap (λ (t : Text). keyed true (d .numeral .result) o (subfields-seen (a .at + n + 1 + before dot t + 1) (split t)))
-    (sym (c .before .behind .ensures))
-    ∙ ap (keyed true (d .numeral .result) o) (sym (c .mark-and-names .ensures))
-
-returns-3 : tie.Need-returns-3
-returns-3 c =
-    let d = c .before .before .before .before .before in
-    let a = d .before .before .before .before .before .before .args in
-    sym (behind-key (c .before .before) ∙ ap (keyed true (d .numeral .result) (all-of (a .at) (a .w .now))) (c .enum-told .given .1))
-
-returns-4 : tie.Need-returns-4
-returns-4 c =
-    let d = c .before .before .before .before .before .before in
-    let a = d .before .before .before .before .before .before .args in
-    sym (behind-key (c .before .before .before)
-    ∙ ap (keyed true (d .numeral .result) (all-of (a .at) (a .w .now))) (c .before .p .given .1))
+    let o = all-of (a .at) (a .w .now) in
+    key-more (a .at) (a .w .now) n (k .until .ensures) (c .before .before .if2 .left) (yes (d .before))
+    ∙ rw (key-is d, ← c .before .behind .ensures)
+    (ap (keyed true (d .numeral .result) o) (sym (c .mark-and-names .ensures) ∙ e))
 
 pub key-spec : {M : Type 1} → statement M
 key-spec =
@@ -131,10 +95,10 @@ key-spec =
     (λ c κs. search needs)
     returns-2
     (λ c κs. search needs)
-    add-mark-and-names
-    add-mark-and-names-2
-    mark-and-names-requires
+    (λ c. omega (arith, room c))
+    (λ c. omega (arith, room c))
+    (λ c κs. room c)
     (λ c. search needs)
     (λ c. search needs)
-    returns-3
-    returns-4)
+    (λ c. sym (behind-key (c .before .before) (c .enum-told .given .1)))
+    (λ c. sym (behind-key (c .before .before .before) (c .before .p .given .1))))

@@ -12,6 +12,7 @@ use Rattle.octets.specs.Part.{before}
 use Rattle.csm.specs.Fields.{split}
 use Rattle.csm.proofs.KdTest.{is-mark}
 use Rattle.fields.specs.Steps.{subfields-seen}
+use Rattle.fields.specs.declared.keys.Subfields.{Subfields}
 use Rattle.fields.proofs.KeyLaws.{behind-dot, marked, mark-one, mark-more}
 use borrow.Author.Needs.{needs}
 use Rattle.fields.proofs.keys.mark_and_names.Statement.{statement}
@@ -26,16 +27,14 @@ p-is c =
 returns : tie.Need-returns
 returns c =
     let p = c .before .before in
-    let k = p .before .before .before in
-    let w = k .before .before .args .w .now in
-    sym (mark-one _ w _ (k .until .ensures) (c .before .if1 .taken) true (p-is p ∙ c .if2 .taken))
+    let u = p .before .before .before .until .ensures in
+    sym (mark-one _ _ _ u (c .before .if1 .taken) true (p-is p ∙ c .if2 .taken))
 
 returns-2 : tie.Need-returns-2
 returns-2 c =
     let p = c .before .before in
-    let k = p .before .before .before in
-    let w = k .before .before .args .w .now in
-    sym (mark-one _ w _ (k .until .ensures) (c .before .if1 .taken) false (p-is p ∙ c .if2 .left))
+    let u = p .before .before .before .until .ensures in
+    sym (mark-one _ _ _ u (c .before .if1 .taken) false (p-is p ∙ c .if2 .left))
 
 -- the mark or nothing, then what names give
 parted : (c : tie.After-is-mark) (b : Bool) → c .is-mark .result ≡ b
@@ -56,9 +55,6 @@ parted c b e =
     ∙ mark-more (a .at + n + 1) w n (k .until .ensures) (c .before .if1 .left)
     ∙ (λ i. marked (m i) (p-is p i) (subfields-seen (a .at + n + 1) ([] ∷ split (drop (n + 1) w))))
 
-returns-3 : tie.Need-returns-3
-returns-3 c = sym (parted (c .before) false (not-true _ (c .if3 .taken)))
-
 -- what stands behind the mark has its place
 room : (c : tie.After-behind)
     → let k = c .before .before .before .before .before .before .before in
@@ -74,20 +70,12 @@ room c =
       ap length (c .behind .ensures),
     )
 
-add-names : tie.Need-add-names
-add-names c = omega (arith, room c)
-
-add-names-2 : tie.Need-add-names-2
-add-names-2 c = omega (arith, room c)
-
-names-requires : tie.Need-names-requires
-names-requires c κs = room c
-
 -- what names give behind the mark's dot
-behind-mark : (c : tie.After-names) → let p = c .before .before .before .before .before in
+behind-mark : (c : tie.After-names) {s : Subfields} → c .names .result ≡ s
+    → let p = c .before .before .before .before .before in
     let k = p .before .before .before in let a = k .before .before .args in
-    subfields-seen (a .at + before dot (a .w .now) + 1) (split (a .w .now)) ≡ marked true (p .same .result) (c .names .result)
-behind-mark c =
+    subfields-seen (a .at + before dot (a .w .now) + 1) (split (a .w .now)) ≡ marked true (p .same .result) s
+behind-mark c e =
     let m = c .before .before .before in
     let p = m .before .before in
     let k = p .before .before .before in
@@ -95,17 +83,7 @@ behind-mark c =
     parted m true (not-false _ (c .before .before .if3 .left))
     ∙ ap (λ (t : Text). marked true (p .same .result) (subfields-seen at ([] ∷ split t)))
     (sym (c .before .behind .ensures))
-    ∙ ap (marked true (p .same .result)) (sym (c .names .ensures))
-
-returns-4 : tie.Need-returns-4
-returns-4 c =
-    let p = c .before .before .before .before .before .before .before in
-    sym (behind-mark (c .before .before) ∙ ap (marked true (p .same .result)) (c .enum-told .given .1))
-
-returns-5 : tie.Need-returns-5
-returns-5 c =
-    let p = c .before .before .before .before .before .before .before .before in
-    sym (behind-mark (c .before .before .before) ∙ ap (marked true (p .same .result)) (c .before .idk1 .given .1))
+    ∙ ap (marked true (p .same .result)) (sym (c .names .ensures) ∙ e)
 
 pub mark-and-names-spec : {M : Type 1} → statement M
 mark-and-names-spec =
@@ -118,12 +96,12 @@ mark-and-names-spec =
     returns
     returns-2
     (λ c κs. search needs)
-    returns-3
+    (λ c. sym (parted (c .before) false (not-true _ (c .if3 .taken))))
     (λ c κs. search needs)
-    add-names
-    add-names-2
-    names-requires
+    (λ c. omega (arith, room c))
+    (λ c. omega (arith, room c))
+    (λ c κs. room c)
     (λ c. search needs)
     (λ c. search needs)
-    returns-4
-    returns-5)
+    (λ c. sym (behind-mark (c .before .before) (c .enum-told .given .1)))
+    (λ c. sym (behind-mark (c .before .before .before) (c .before .idk1 .given .1))))

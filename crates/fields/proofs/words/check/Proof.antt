@@ -1,5 +1,5 @@
 -- `fields::words::check` meets its contract. Assumes nothing.
-use mathlib.Core.Path.{_≡_, sym, ap, _∙_}
+use mathlib.Core.Path.{_≡_, sym, _∙_}
 use mathlib.Core.Option.{some}
 use Prim.Native.Nat.{ℕ, _<_}
 use native.Mathlib.Omega.{arith}
@@ -8,8 +8,6 @@ use Rattle.octets.specs.Text.{Text}
 use Rattle.csm.specs.Format.{value}
 use Rattle.csm.specs.Fields.{hex, half-digits}
 use Rattle.csm.proofs.FormatLaws.{value-back}
-use Rattle.fields.specs.Seen.{number-seen}
-use Rattle.fields.specs.Steps.{halves}
 use Rattle.fields.proofs.PieceLaws.{number-none, number-some}
 use borrow.Author.Needs.{needs}
 use Rattle.fields.proofs.words.check.Statement.{statement}
@@ -37,36 +35,24 @@ right k =
 
 returns : tie.Need-returns
 returns c =
-    let a = c .before .before .before .before .before .args in
-    let no = number-none (value (hex half-digits) (a .high .now))
-    (sym (c .before .before .half .ensures) ∙ c .enum-told .given .1) in
-    sym (ap (λ o. number-seen (halves o (value (hex half-digits) (a .low .now)))) no)
+    let w = c .before .before .before .before .before .args .high .now in
+    rw (number-none (value (hex half-digits) w) (sym (c .before .before .half .ensures) ∙ c .enum-told .given .1))
 
 returns-2 : tie.Need-returns-2
 returns-2 c =
     let k = c .before .before .before in
     let w = k .before .before .before .before .before .before .args .low .now in
     let no = number-none (value (hex half-digits) w) (sym (c .before .before .half2 .ensures) ∙ c .enum-told2 .given .1) in
-    let l = left k in
-    sym (λ i. number-seen (halves (l i) (no i)))
+    rw (left k, no)
 
 -- both have room
 few : (k : tie.After-known-told) → k .before .left .given .0 .0 < 65536
 few k = small (k .before .before .before .before .before .before .args .high .now) _ (left k)
 
-mul-t7 : tie.Need-mul-t7
-mul-t7 c = omega (arith, few (c .before .before .before .before))
-
 add-t8 : tie.Need-add-t8
 add-t8 c =
     let w = c .before .before .before .before .before .before .before .before .before .before .args .low .now in
     omega (arith, few (c .before .before .before .before), small w _ (right c))
-
-returns-3 : tie.Need-returns-3
-returns-3 c =
-    let l = left (c .before .before .before .before) in
-    let r = right c in
-    sym (λ i. number-seen (halves (l i) (r i)))
 
 pub check-spec : {M : Type 1} → statement M
 check-spec =
@@ -80,6 +66,6 @@ check-spec =
     (λ c. search needs)
     (λ c. search needs)
     returns-2
-    mul-t7
+    (λ c. omega (arith, few (c .before .before .before .before)))
     add-t8
-    returns-3)
+    (λ c. rw (left (c .before .before .before .before), right c)))

@@ -15,9 +15,6 @@ Inv-loop base digits n₀ i₀ n i =
 abbrev μ-loop : tie.MeasureT-loop
 μ-loop base digits n₀ i₀ n i = length digits - i
 
-loop-holds : tie.Need-loop-holds Inv-loop μ-loop
-loop-holds c = (omega arith, (omega arith, refl))
-
 mul-n : tie.Need-mul-n Inv-loop μ-loop
 mul-n c =
     let l = c .before in
@@ -25,12 +22,6 @@ mul-n c =
     let r = room (s .args .base) (l .loop .n) 0 (l .loop .i) (s .pre .0) (l .loop .inv .1 .0) (omega arith)
     (omega (arith, few-digits (s .args .digits .now) (s .pre .1))) in
     omega (arith, r .fits)
-
-shared-slice-read-digit-value : tie.Need-shared-slice-read-digit-value Inv-loop μ-loop
-shared-slice-read-digit-value c = omega arith
-
-digit-value-requires : tie.Need-digit-value-requires Inv-loop μ-loop
-digit-value-requires c κs = tt
 
 -- one digit more has room
 more : (c : tie.After-digit-value Inv-loop μ-loop) → let l = c .before .before .before in
@@ -42,15 +33,6 @@ more c =
     let d = digit-small w (l .loop .i) (s .pre .1) (omega arith) in
     room (s .args .base) (l .loop .n) (c .digit-value .result) (l .loop .i) (s .pre .0) (l .loop .inv .1 .0)
     (omega (arith, c .digit-value .ensures)) (omega (arith, few-digits w (s .pre .1)))
-
-add-n : tie.Need-add-n Inv-loop μ-loop
-add-n c = record { fits = more c .fits }
-
-add-i : tie.Need-add-i Inv-loop μ-loop
-add-i c = omega arith
-
-loop-less : tie.Need-loop-less Inv-loop μ-loop
-loop-less c = omega arith
 
 loop-again : tie.Need-loop-again Inv-loop μ-loop
 loop-again c =
@@ -76,12 +58,12 @@ numeral-spec =
     (tie.spec
     Inv-loop
     μ-loop
-    loop-holds
+    (λ c. (omega arith, (omega arith, refl)))
     mul-n
-    shared-slice-read-digit-value
-    digit-value-requires
-    add-n
-    add-i
-    loop-less
+    (λ c. omega arith)
+    (λ c κs. tt)
+    (λ c. record { fits = more c .fits })
+    (λ c. omega arith)
+    (λ c. omega arith)
     loop-again
     returns)

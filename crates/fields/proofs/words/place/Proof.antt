@@ -23,9 +23,6 @@ loop-holds c =
     let a = c .before .before .args in
     (omega arith, sym (zero-add (index (texts (a .table .now)) (a .w .now))))
 
-until-requires : tie.Need-until-requires Inv-loop μ-loop
-until-requires c κs = tt
-
 -- the text ends within the table
 ends : (c : tie.After-until Inv-loop μ-loop) → let a = c .before .before .before .before .before .args in
     c .until .result ≤ length (a .table .now)
@@ -34,18 +31,6 @@ ends c =
     let t = l .before .before .before .args .table .now in
     omega (arith, c .until .ensures, before-fits blank (drop (l .loop .at) t), length-drop (l .loop .at) t)
 
-sub-same : tie.Need-sub-same Inv-loop μ-loop
-sub-same c = omega (arith, c .until .ensures)
-
-part-same-start : tie.Need-part-same-start Inv-loop μ-loop
-part-same-start c = omega (arith, c .until .ensures)
-
-part-same-end : tie.Need-part-same-end Inv-loop μ-loop
-part-same-end c = ends c
-
-same-requires : tie.Need-same-requires Inv-loop μ-loop
-same-requires c κs = tt
-
 returns : tie.Need-returns Inv-loop μ-loop
 returns c =
     let l = c .before .before .before .before .before in
@@ -53,15 +38,6 @@ returns c =
     let yes = sym (c .before .same .ensures) ∙ c .if1 .taken in
     sym (index-here (a .table .now) (a .w .now) (l .loop .k) (l .loop .at) _ (l .loop .inv .1) (omega arith)
     (c .before .before .before .until .ensures) yes)
-
-add-at : tie.Need-add-at Inv-loop μ-loop
-add-at c = omega (arith, ends (c .before .before .before))
-
-add-k : tie.Need-add-k Inv-loop μ-loop
-add-k c = omega arith
-
-loop-less : tie.Need-loop-less Inv-loop μ-loop
-loop-less c = omega (arith, c .before .before .before .until .ensures)
 
 loop-again : tie.Need-loop-again Inv-loop μ-loop
 loop-again c =
@@ -86,14 +62,14 @@ place-spec =
     Inv-loop
     μ-loop
     loop-holds
-    until-requires
-    sub-same
-    part-same-start
-    part-same-end
-    same-requires
+    (λ c κs. tt)
+    (λ c. omega (arith, c .until .ensures))
+    (λ c. omega (arith, c .until .ensures))
+    (λ c. ends c)
+    (λ c κs. tt)
     returns
-    add-at
-    add-k
-    loop-less
+    (λ c. omega (arith, ends (c .before .before .before)))
+    (λ c. omega arith)
+    (λ c. omega (arith, c .before .before .before .until .ensures))
     loop-again
     returns-2)

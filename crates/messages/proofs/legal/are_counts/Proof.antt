@@ -20,9 +20,6 @@ returns-2 c =
     let h = sym (c .before .is-count .ensures) ∙ not-true _ (c .if2 .taken) in
     sym (counts-with (k .0 .0) (k .0 .1 .0) both (k .1) ∙ rw (not-false both (v .if1 .left), h))
 
-returns-3 : tie.Need-returns-3
-returns-3 c = sym (counts-without (c .before .before .args .both) (c .enum-told .given .1))
-
 returns-4 : tie.Need-returns-4
 returns-4 c =
     let v = c .before .before .before in
@@ -43,5 +40,5 @@ are-counts-spec =
     (λ c κs. search needs)
     returns-2
     (λ c κs. search needs)
-    returns-3
+    (λ c. sym (counts-without (c .before .before .args .both) (c .enum-told .given .1)))
     returns-4)

@@ -11,12 +11,10 @@ returns c = wrote-as (no-counts (c .enum-told .given .1)) (wrote-nothing (c .bef
 
 returns-2 : tie.Need-returns-2
 returns-2 c =
-    let w = c .before .before in
-    let v = w .before .before .before .before .before in
+    let v = c .before .before .before .before .before .before .before in
     let k = v .before .before .before .before .counts .given in
     let b = counts-below (k .0 .0) (k .0 .1 .0) (k .1) (v .before .before .before .before .before .before .before .pre) in
-    wrote-as (both-counts (k .0 .0) (k .0 .1 .0) (k .1) (b .0) (b .1))
-    (wrote-rest (v .put-count .ensures) (w .put-count2 .ensures))
+    wrote-as (both-counts (k .0 .0) (k .0 .1 .0) (k .1) (b .0) (b .1)) (search wrote-rest)
 
 pub put-counts-spec : {M : Type 1} → statement M
 put-counts-spec =

@@ -7,12 +7,9 @@ use Rattle.messages.proofs.whole.put_covered.Tie as tie
 
 returns : tie.Need-returns
 returns c =
-    let w = c .before .before in
-    let v = w .before .before .before .before in
-    let u = v .before .before .before .before in
-    let a = u .before .before .before .before .before .before .args in
-    wrote-as (ksm-text (a .rcv .now) (a .org .now) (a .ksm))
-    (wrote-rest (wrote-rest (u .put-head .ensures) (v .put-keys .ensures)) (w .put-tail .ensures))
+    let w = c .before .before .before .before .before .before .before .before in
+    let a = w .before .before .before .before .before .before .before .before .args in
+    wrote-as (ksm-text (a .rcv .now) (a .org .now) (a .ksm)) (search wrote-rest)
 
 pub put-covered-spec : {M : Type 1} → statement M
 put-covered-spec =

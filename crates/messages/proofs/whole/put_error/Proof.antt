@@ -4,11 +4,6 @@ use borrow.Author.Needs.{needs}
 use Rattle.messages.proofs.whole.put_error.Statement.{statement}
 use Rattle.messages.proofs.whole.put_error.Tie as tie
 
-returns : tie.Need-returns
-returns c =
-    let w = c .before .before in
-    wrote-rest (w .before .before .before .before .put-counts .ensures) (w .put-erf .ensures)
-
 pub put-error-spec : {M : Type 1} → statement M
 put-error-spec =
     tie.close
@@ -20,4 +15,4 @@ put-error-spec =
     (λ c κs. search needs)
     (λ c. search needs)
     (λ c. search needs)
-    returns)
+    (λ c. search wrote-rest))

@@ -7,12 +7,9 @@ use Rattle.messages.proofs.whole.put_esm.Tie as tie
 
 returns : tie.Need-returns
 returns c =
-    let w = c .before .before in
-    let v = w .before .before .before .before .before in
-    let u = v .before .before .before .before in
-    let a = u .before .before .before .before .before .before .args in
-    wrote-as (esm-text (a .rcv .now) (a .org .now) (a .letters) (a .counts))
-    (wrote-rest (wrote-rest (u .put-head .ensures) (v .put-error .ensures)) (w .put-text .ensures))
+    let w = c .before .before .before .before .before .before .before .before in
+    let a = w .before .before .before .before .before .before .before .before .before .args in
+    wrote-as (esm-text (a .rcv .now) (a .org .now) (a .letters) (a .counts)) (search wrote-rest)
 
 pub put-esm-spec : {M : Type 1} → statement M
 put-esm-spec =

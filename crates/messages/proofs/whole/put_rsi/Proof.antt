@@ -7,12 +7,9 @@ use Rattle.messages.proofs.whole.put_rsi.Tie as tie
 
 returns : tie.Need-returns
 returns c =
-    let w = c .before .before in
-    let v = w .before .before .before .before .before in
-    let u = v .before .before .before .before in
-    let a = u .before .before .before .before .before .before .args in
-    wrote-as (rsi-text (a .rcv .now) (a .org .now) (a .service))
-    (wrote-rest (wrote-rest (u .put-head .ensures) (v .put-svr .ensures)) (w .put-text .ensures))
+    let w = c .before .before .before .before .before .before .before .before in
+    let a = w .before .before .before .before .before .before .before .before .before .args in
+    wrote-as (rsi-text (a .rcv .now) (a .org .now) (a .service)) (search wrote-rest)
 
 pub put-rsi-spec : {M : Type 1} → statement M
 put-rsi-spec =

@@ -7,12 +7,9 @@ use Rattle.messages.proofs.whole.put_tail.Tie as tie
 
 returns : tie.Need-returns
 returns c =
-    let w = c .before .before in
-    let v = w .before .before .before .before .before in
-    let u = v .before .before .before .before .before in
-    let s = u .before .before .before .before in
-    wrote-as (tail-parts (s .args .ksm) (s .pre))
-    (wrote-rest (wrote-rest (u .put-iv .ensures) (v .put-edk .ensures)) (w .put-count .ensures))
+    let w = c .before .before .before .before .before .before .before .before in
+    let s = w .before .before .before .before .before .before .before .before in
+    wrote-as (tail-parts (s .args .ksm) (s .pre)) (search wrote-rest)
 
 pub put-tail-spec : {M : Type 1} → statement M
 put-tail-spec =

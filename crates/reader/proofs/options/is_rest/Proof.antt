@@ -10,16 +10,13 @@ use Rattle.reader.proofs.options.is_rest.Statement.{statement}
 use Rattle.reader.proofs.options.is_rest.Tie as tie
 
 returns : tie.Need-returns
-returns c =
-    let a = c .before .before .before .args in
-    sym (rest-not (a .s .now) (sym (c .before .is-text .ensures) ∙ not-true _ (c .if1 .taken)))
+returns c = sym (rest-not _ (sym (c .before .is-text .ensures) ∙ not-true _ (c .if1 .taken)))
 
 returns-2 : tie.Need-returns-2
 returns-2 c =
     let k = c .before in
-    let a = k .before .before .before .args in
     let yes = sym (k .before .is-text .ensures) ∙ not-false _ (k .if1 .left) in
-    sym (rest-ends (a .s .now) yes _ (ends-empty (a .s .now) (c .if2 .taken)))
+    sym (rest-ends _ yes _ (ends-empty (k .before .before .before .args .s .now) (c .if2 .taken)))
 
 returns-3 : tie.Need-returns-3
 returns-3 c =

@@ -16,27 +16,12 @@ Inv-loop s i₀ i = (i ≤ length s) × (all text-char s ≡ all text-char (drop
 abbrev μ-loop : tie.MeasureT-loop
 μ-loop s i₀ i = length s - i
 
-loop-holds : tie.Need-loop-holds Inv-loop μ-loop
-loop-holds c = (omega arith, refl)
-
-shared-slice-read-is-text-char : tie.Need-shared-slice-read-is-text-char Inv-loop μ-loop
-shared-slice-read-is-text-char c = omega arith
-
-is-text-char-requires : tie.Need-is-text-char-requires Inv-loop μ-loop
-is-text-char-requires c κs = tt
-
 returns : tie.Need-returns Inv-loop μ-loop
 returns c =
     let l = c .before .before .before .before in
     let a = l .before .before .args in
     let no = sym (c .before .is-text-char .ensures) ∙ not-true _ (c .if1 .taken) in
     sym (all-fails text-char (a .s .now) (l .loop .i) (l .loop .inv .1) (omega arith) no)
-
-add-i : tie.Need-add-i Inv-loop μ-loop
-add-i c = omega arith
-
-loop-less : tie.Need-loop-less Inv-loop μ-loop
-loop-less c = omega arith
 
 loop-again : tie.Need-loop-again Inv-loop μ-loop
 loop-again c =
@@ -57,11 +42,11 @@ is-text-spec =
     (tie.spec
     Inv-loop
     μ-loop
-    loop-holds
-    shared-slice-read-is-text-char
-    is-text-char-requires
+    (λ c. (omega arith, refl))
+    (λ c. omega arith)
+    (λ c κs. tt)
     returns
-    add-i
-    loop-less
+    (λ c. omega arith)
+    (λ c. omega arith)
     loop-again
     returns-2)

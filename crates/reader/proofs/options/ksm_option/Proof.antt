@@ -1,6 +1,7 @@
 -- `reader::options::ksm_option` meets its contract: each tag in turn. Assumes nothing.
 use mathlib.Core.Path.{sym, _∙_}
-use Rattle.reader.proofs.OptionLaws.{or-none, or-both}
+use mathlib.Core.Bool.{or-false}
+use Rattle.reader.proofs.OptionLaws.{or-both}
 use borrow.Author.Needs.{needs}
 use Rattle.reader.proofs.options.ksm_option.Statement.{statement}
 use Rattle.reader.proofs.options.ksm_option.Tie as tie
@@ -15,7 +16,7 @@ returns c =
     (or-both (d .either3 .ensures) (d .before .starts4 .ensures)
     (or-both (d .before .before .before .either2 .ensures) (d .before .before .before .before .starts3 .ensures)
     (or-both (d .before .before .before .before .before .before .either .ensures) (d .before .before .before .before .before .before .before .starts2 .ensures)
-    (last ∙ sym (or-none _)))))))
+    (last ∙ sym (or-false _)))))))
 
 pub ksm-option-spec : {M : Type 1} → statement M
 ksm-option-spec =

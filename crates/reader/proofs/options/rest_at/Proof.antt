@@ -7,34 +7,22 @@ use Rattle.reader.proofs.options.rest_at.Statement.{statement}
 use Rattle.reader.proofs.options.rest_at.Tie as tie
 
 returns : tie.Need-returns
-returns c =
-    let e = c .before in
-    let a = e .before .before .args in
-    sym (rest-missing (a .class) (a .head) (a .text .now)
-    (a .at) (e .until .result) (e .until .ensures) (c .if1 .taken))
+returns c = sym (rest-missing _ _ _ _ _ (c .before .until .ensures) (c .if1 .taken))
 
 returns-2 : tie.Need-returns-2
-returns-2 c =
-    let e = c .before .before in
-    let a = e .before .before .args in
-    sym (rest-more (a .class) (a .head) (a .text .now) (a .at) (e .until .result) (e .until .ensures)
-    (c .before .if1 .left) (c .if2 .taken))
+returns-2 c = sym (rest-more _ _ _ _ _ (c .before .before .until .ensures) (c .before .if1 .left) (c .if2 .taken))
 
 returns-3 : tie.Need-returns-3
 returns-3 c =
     let k = c .before .before .before in
-    let e = k .before .before in
-    let a = e .before .before .args in
-    sym (rest-whole (a .class) (a .head) (a .text .now) (a .at) (e .until .result) (e .until .ensures)
-    (k .if2 .left) true (sym (c .before .is-rest .ensures) ∙ c .if3 .taken))
+    sym (rest-whole _ _ _ _ _ (k .before .before .until .ensures) (k .if2 .left) true
+    (sym (c .before .is-rest .ensures) ∙ c .if3 .taken))
 
 returns-4 : tie.Need-returns-4
 returns-4 c =
     let k = c .before .before .before in
-    let e = k .before .before in
-    let a = e .before .before .args in
-    sym (rest-whole (a .class) (a .head) (a .text .now) (a .at) (e .until .result) (e .until .ensures)
-    (k .if2 .left) false (sym (c .before .is-rest .ensures) ∙ c .if3 .left))
+    sym (rest-whole _ _ _ _ _ (k .before .before .until .ensures) (k .if2 .left) false
+    (sym (c .before .is-rest .ensures) ∙ c .if3 .left))
 
 pub rest-at-spec : {M : Type 1} → statement M
 rest-at-spec =

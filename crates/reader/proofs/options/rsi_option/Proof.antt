@@ -1,7 +1,7 @@
 -- `reader::options::rsi_option` meets its contract: each tag in turn. Assumes nothing.
+use mathlib.Core.Bool.{or-false}
 use lib.ListN.{drop}
 use Rattle.octets.specs.Text.{ascii, starts}
-use Rattle.reader.proofs.OptionLaws.{or-none}
 use borrow.Author.Needs.{needs}
 use Rattle.reader.proofs.options.rsi_option.Statement.{statement}
 use Rattle.reader.proofs.options.rsi_option.Tie as tie
@@ -9,7 +9,7 @@ use Rattle.reader.proofs.options.rsi_option.Tie as tie
 returns : tie.Need-returns
 returns c =
     let a = c .before .before .before .before .before .before .args in
-    cc (or-none (starts (ascii "IDC/") (drop (a .at) (a .text .now))))
+    cc (or-false (starts (ascii "IDC/") (drop (a .at) (a .text .now))))
 
 pub rsi-option-spec : {M : Type 1} → statement M
 rsi-option-spec =

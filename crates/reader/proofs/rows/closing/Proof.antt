@@ -1,10 +1,9 @@
 -- `reader::rows::closing` meets its contract: what is left is compared with the closing parenthesis. Assumes nothing.
-use mathlib.Core.Path.{sym, ap, _∙_}
 use Prim.Native.Nat.{_-_}
 use lib.ListN.{length, drop, drop-of-length-le, length-drop}
 use lib.Seq.{take-all}
 use native.Mathlib.Omega.{arith}
-use Rattle.octets.specs.Text.{Text, ascii, same}
+use Rattle.octets.specs.Text.{same}
 use borrow.Author.Needs.{needs}
 use Rattle.reader.proofs.rows.closing.Statement.{statement}
 use Rattle.reader.proofs.rows.closing.Tie as tie
@@ -12,15 +11,13 @@ use Rattle.reader.proofs.rows.closing.Tie as tie
 returns : tie.Need-returns
 returns c =
     let a = c .before .before .args in
-    sym (ap (λ (u : Text). same u (ascii ")")) (drop-of-length-le (a .text .now) {i = a .at} (omega arith)))
+    rw (drop-of-length-le (a .text .now) {i = a .at} (omega arith))
 
 returns-2 : tie.Need-returns-2
 returns-2 c =
     let a = c .before .before .before .before .before .args in
     let s = a .text .now in
-    let u = drop (a .at) s in
-    c .same .ensures
-    ∙ ap (λ (u : Text). same u (ascii ")")) (take-all (length s - a .at) u (omega (arith, length-drop (a .at) s)))
+    rw (c .same .ensures, take-all (length s - a .at) (drop (a .at) s) (omega (arith, length-drop (a .at) s)))
 
 pub closing-spec : {M : Type 1} → statement M
 closing-spec =

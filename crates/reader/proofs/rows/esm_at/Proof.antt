@@ -26,17 +26,12 @@ whole k b e =
 
 returns : tie.Need-returns
 returns c =
-    let h = c .before .before .before .before .before .before .before .before .before .before .before .before .before .before .before .before .before .before .before .before .before .args .head in
-    (λ i. message.Esm (record {
-      head = h;
-      ctp = c .before .before .before .optional .ensures i;
-      ctr = c .before .before .optional2 .ensures i;
-      erf = c .before .numeral-of .ensures i;
-      edc = c .optional3 .ensures i;
-    })) ∙ sym (whole (c .before .before .before .before .before) true (c .before .before .before .before .if1 .taken))
-
-returns-2 : tie.Need-returns-2
-returns-2 c = sym (whole (c .before) false (c .if1 .left))
+    rw (
+      c .before .before .before .optional .ensures,
+      c .before .before .optional2 .ensures,
+      c .before .numeral-of .ensures,
+      c .optional3 .ensures,
+    ) (sym (whole (c .before .before .before .before .before) true (c .before .before .before .before .if1 .taken)))
 
 pub esm-at-spec : {M : Type 1} → statement M
 esm-at-spec =
@@ -58,4 +53,4 @@ esm-at-spec =
     (λ c κs. search needs)
     (λ c κs. search needs)
     returns
-    returns-2)
+    (λ c. sym (whole (c .before) false (c .if1 .left))))

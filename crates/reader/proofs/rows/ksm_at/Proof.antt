@@ -31,21 +31,8 @@ whole k b e =
 
 returns : tie.Need-returns
 returns c =
-    let f = c .before .before .before .before .before .before .before in
-    let j = f .before .before .before .before .before .before .before .before .before .before .before .before .before .before .before .key-field2 .result in
-    (λ i. message.Ksm (record {
-      head = f .before .before .before .before .before .before .before .before .before .before .before .before .before .before .before .before .before .before .before .args .head;
-      first = f .before .before .before .before .before .before .before .before .before .before .before .before .before .before .before .before .before .key-field .result .kd;
-      two = j .place .there;
-      second = j .kd;
-      iv = f .before .before .before .before .before .before .before .before .before .before .before .before .run-field .result .span;
-      edk = f .before .before .before .before .before .before .before .before .before .before .run-field2 .result .span;
-      ctp = c .before .numeral-of .ensures i;
-      mac = c .numeral-of2 .ensures i;
-    })) ∙ sym (whole f true (c .before .before .before .before .before .before .if1 .taken))
-
-returns-2 : tie.Need-returns-2
-returns-2 c = sym (whole (c .before) false (c .if1 .left))
+    let t = c .before .before .before .before .before .before in
+    rw (c .before .numeral-of .ensures, c .numeral-of2 .ensures) (sym (whole (t .before) true (t .if1 .taken)))
 
 pub ksm-at-spec : {M : Type 1} → statement M
 ksm-at-spec =
@@ -68,4 +55,4 @@ ksm-at-spec =
     (λ c κs. search needs)
     (λ c κs. search needs)
     returns
-    returns-2)
+    (λ c. sym (whole (c .before) false (c .if1 .left))))

@@ -3,7 +3,6 @@ use mathlib.Core.Path.{_≡_, sym, ap, _∙_}
 use mathlib.Core.Bool.{Bool, true, false, cond, _&&_}
 use lib.ListN.{drop}
 use Rattle.reader.specs.Stages.{rsi-body}
-use Rattle.reader.specs.declared.Optional.{Optional}
 use Rattle.reader.specs.declared.Message.the-variants as message
 use Rattle.reader.proofs.StageLaws.{rsi-join, rsi-step}
 use borrow.Author.Needs.{needs}
@@ -21,17 +20,6 @@ whole k b e =
     rsi-step (a .head) (a .text .now) (a .at) (v .ensures) (k .before .before .before .before .check-field .ensures) b
     (sym (k .both .ensures ∙ ap (λ (z : Bool). v .result .place .there && z) (k .before .closing .ensures)) ∙ e)
 
-returns : tie.Need-returns
-returns c =
-    let h = c .before .before .before .before .before .before .before .before .before .before .before .args .head in
-    let v = c .before .before .before .before .before .before .before .before .before .service-field .result in
-    ap (λ (o : Optional). message.Rsi (record { head = h; service = v .value; svr = v .place .span; edc = o }))
-    (c .before .before .before .before .before .optional .ensures)
-    ∙ sym (whole (c .before .before) true (c .before .if1 .taken))
-
-returns-2 : tie.Need-returns-2
-returns-2 c = sym (whole (c .before) false (c .if1 .left))
-
 pub rsi-at-spec : {M : Type 1} → statement M
 rsi-at-spec =
     tie.close
@@ -42,5 +30,7 @@ rsi-at-spec =
     (λ c κs. search needs)
     (λ c κs. search needs)
     (λ c κs. search needs)
-    returns
-    returns-2)
+    (λ c.
+    rw (c .before .before .before .before .before .optional .ensures)
+    (sym (whole (c .before .before) true (c .before .if1 .taken))))
+    (λ c. sym (whole (c .before) false (c .if1 .left))))

@@ -3,7 +3,6 @@ use mathlib.Core.Path.{_≡_, sym, ap, _∙_}
 use mathlib.Core.Bool.{Bool, true, false, cond, _&&_}
 use lib.ListN.{drop}
 use Rattle.reader.specs.Stages.{numeral-of, rsm-body}
-use Rattle.reader.specs.declared.Numeral.{Numeral}
 use Rattle.reader.specs.declared.Message.the-variants as message
 use Rattle.reader.proofs.StageLaws.{rsm-step}
 use borrow.Author.Needs.{needs}
@@ -20,15 +19,6 @@ whole k b e =
     rsm-step (a .head) (a .text .now) (a .at) (m .ensures) b
     (sym (k .both .ensures ∙ ap (λ (z : Bool). m .result .place .there && z) (k .before .closing .ensures)) ∙ e)
 
-returns : tie.Need-returns
-returns c =
-    let h = c .before .before .before .before .before .before .before .before .args .head in
-    ap (λ (w : Numeral). message.Rsm (record { head = h; mac = w })) (c .numeral-of .ensures)
-    ∙ sym (whole (c .before .before) true (c .before .if1 .taken))
-
-returns-2 : tie.Need-returns-2
-returns-2 c = sym (whole (c .before) false (c .if1 .left))
-
 pub rsm-at-spec : {M : Type 1} → statement M
 rsm-at-spec =
     tie.close
@@ -38,5 +28,5 @@ rsm-at-spec =
     (λ c κs. search needs)
     (λ c κs. search needs)
     (λ c κs. search needs)
-    returns
-    returns-2)
+    (λ c. rw (c .numeral-of .ensures) (sym (whole (c .before .before) true (c .before .if1 .taken))))
+    (λ c. sym (whole (c .before) false (c .if1 .left))))

@@ -29,27 +29,18 @@ abbrev put-decimal-below : ℕ → In 1 put-decimal-kinds.ps
 put-decimal-below t =
     and 1 put-decimal-kinds.ps (falls 1 put-decimal-kinds.ps _<_ μ-put-decimal t) put-decimal.Pre
 
-returns : (t : ℕ) → put-decimal-lts.Need-returns (
-  digit-reads.Asked,
-  digit-reads.Learnt,
-  fill-reads.Asked,
-  fill-reads.Learnt,
-  put-decimal-below t,
-  put-decimal.Post,
-) (put-decimal-at t) put-decimal.Post
+-- what is asked and learnt of the functions that it calls
+abbrev claims : ℕ → put-decimal-lts.Claims
+claims t =
+    (digit-reads.Asked, digit-reads.Learnt, fill-reads.Asked, fill-reads.Learnt, put-decimal-below t, put-decimal.Post)
+
+returns : (t : ℕ) → put-decimal-lts.Need-returns (claims t) (put-decimal-at t) put-decimal.Post
 returns t c =
     let n = c .before .before .before .before .before .before .before .args .n in
     let e = ap (λ (x : ℕ). x ∷ []) (c .before .before .before .digit .ensures) ∙ sym (decimal-one n (omega arith)) in
     wrote-as e (c .before .before .fill .ensures)
 
-returns-2 : (t : ℕ) → put-decimal-lts.Need-returns-2 (
-  digit-reads.Asked,
-  digit-reads.Learnt,
-  fill-reads.Asked,
-  fill-reads.Learnt,
-  put-decimal-below t,
-  put-decimal.Post,
-) (put-decimal-at t) put-decimal.Post
+returns-2 : (t : ℕ) → put-decimal-lts.Need-returns-2 (claims t) (put-decimal-at t) put-decimal.Post
 returns-2 t c =
     let w = c .before .before in
     let v = w .before .before .before .before .before in
@@ -60,14 +51,7 @@ returns-2 t c =
     wrote-as e (wrote-rest (v .put-decimal .ensures) (w .fill2 .ensures))
 
 pub +put-decimal-spec : {M : Type 1} → statement M
-+put-decimal-spec = close μ-put-decimal λ t. put-decimal-lts.spec (
-  digit-reads.Asked,
-  digit-reads.Learnt,
-  fill-reads.Asked,
-  fill-reads.Learnt,
-  put-decimal-below t,
-  put-decimal.Post,
-)
++put-decimal-spec = close μ-put-decimal λ t. put-decimal-lts.spec (claims t)
     (put-decimal-at t)
     put-decimal.Post
     (λ c κs. omega arith)

@@ -4,11 +4,6 @@ use borrow.Author.Needs.{needs}
 use Rattle.writer.proofs.digits.put_block.Statement.{statement}
 use Rattle.writer.proofs.digits.put_block.Tie as tie
 
-returns : tie.Need-returns
-returns c =
-    let w = c .before .before in
-    wrote-rest (w .before .before .before .before .put-text .ensures) (w .put-hex .ensures)
-
 pub put-block-spec : {M : Type 1} → statement M
 put-block-spec =
     tie.close
@@ -20,4 +15,4 @@ put-block-spec =
     (λ c κs. search needs)
     (λ c. search needs)
     (λ c. search needs)
-    returns)
+    (λ c. search wrote-rest))

@@ -4,11 +4,6 @@ use borrow.Author.Needs.{needs}
 use Rattle.writer.proofs.digits.put_half.Statement.{statement}
 use Rattle.writer.proofs.digits.put_half.Tie as tie
 
-returns : tie.Need-returns
-returns c =
-    let w = c .before .before in
-    wrote-rest (w .before .before .before .before .before .put-hex .ensures) (w .put-text .ensures)
-
 pub put-half-spec : {M : Type 1} → statement M
 put-half-spec =
     tie.close
@@ -21,4 +16,4 @@ put-half-spec =
     (λ c κs. search needs)
     (λ c. search needs)
     (λ c. search needs)
-    returns)
+    (λ c. search wrote-rest))

@@ -16,9 +16,6 @@ Inv-loop rest₀ k x n place₀ i₀ rest place i = (place + i ≡ k) × Laying 
 abbrev μ-loop : tie.MeasureT-loop
 μ-loop rest₀ k x n place₀ i₀ rest place i = n - i
 
-smaller-requires : tie.Need-smaller-requires Inv-loop μ-loop
-smaller-requires c κs = tt
-
 loop-holds : tie.Need-loop-holds Inv-loop μ-loop
 loop-holds c =
     let a = c .before .before .args in
@@ -34,15 +31,6 @@ digit-at-requires c κs =
     let a = c .before .before .before .before .args in
     omega (arith, hex-length (a .k) (a .x))
 
-slice-write-rest : tie.Need-slice-write-rest Inv-loop μ-loop
-slice-write-rest c = omega arith
-
-add-i : tie.Need-add-i Inv-loop μ-loop
-add-i c = omega arith
-
-loop-less : tie.Need-loop-less Inv-loop μ-loop
-loop-less c = omega arith
-
 loop-again : tie.Need-loop-again Inv-loop μ-loop
 loop-again c =
     let l = c .before .before in
@@ -51,25 +39,19 @@ loop-again c =
     let b = hex-at (a .k) (a .x) (l .loop .i) (l .loop .place - 1) (omega arith) in
     (omega arith, laying-more (l .loop .inv .1) (omega arith) (c .digit-at .ensures ∙ sym b))
 
-same-length : tie.Need-same-length Inv-loop μ-loop
-same-length c = c .before .loop .inv .1 .size
-
-returns : tie.Need-returns Inv-loop μ-loop
-returns c = laying-all (c .before .loop .inv .1) (omega arith)
-
 pub put-hex-spec : {M : Type 1} → statement M
 put-hex-spec =
     tie.close
     (tie.spec
     Inv-loop
     μ-loop
-    smaller-requires
+    (λ c κs. tt)
     loop-holds
     sub-place
     digit-at-requires
-    slice-write-rest
-    add-i
-    loop-less
+    (λ c. omega arith)
+    (λ c. omega arith)
+    (λ c. omega arith)
     loop-again
-    same-length
-    returns)
+    (λ c. c .before .loop .inv .1 .size)
+    (λ c. laying-all (c .before .loop .inv .1) (omega arith)))

@@ -9,11 +9,8 @@ use Rattle.writer.proofs.digits.put_vector.Tie as tie
 
 returns : tie.Need-returns
 returns c =
-    let w = c .before .before in
-    let v = w .before .before .before .before .before in
-    let a = v .before .before .before .before .args in
-    wrote-as (append-assoc (a .front .now) (hex-text 16 (a .x)) (blank ∷ []))
-    (wrote-rest (v .put-block .ensures) (w .put-text .ensures))
+    let a = c .before .before .before .before .before .before .before .before .before .before .before .args in
+    wrote-as (append-assoc (a .front .now) (hex-text 16 (a .x)) (blank ∷ [])) (search wrote-rest)
 
 pub put-vector-spec : {M : Type 1} → statement M
 put-vector-spec =

@@ -1,5 +1,5 @@
 -- `writer::kd::put_kd` meets its contract: tag and digits, subfields, blank, one after the other. Assumes nothing.
-use mathlib.Core.Path.{_≡_, ap, _∙_}
+use mathlib.Core.Path.{_≡_}
 use mathlib.Core.List.{[], _∷_, _++_, append-assoc}
 use Rattle.octets.specs.Text.{Text, ascii, blank}
 use Rattle.octets.proofs.Writing.{wrote-rest, wrote-as}
@@ -10,7 +10,7 @@ use Rattle.writer.proofs.kd.put_kd.Tie as tie
 
 -- the tag, the digits, the subfields and the blank, grouped as the format has them
 grouped : (t h s b : Text) → ((t ++ h) ++ s) ++ b ≡ t ++ ((h ++ s) ++ b)
-grouped t h s b = ap (λ (r : Text). r ++ b) (append-assoc t h s) ∙ append-assoc t (h ++ s) b
+grouped t h s b = simp append-assoc
 
 returns : tie.Need-returns
 returns c =
@@ -23,7 +23,7 @@ returns c =
     let idk2 = v .before .bare2 .ensures in
     wrote-as
     (λ i. grouped (ascii "KD/") h (subfields (key .p) (nonempty (idk1 i)) (nonempty (idk2 i))) (blank ∷ []) i)
-    (wrote-rest (wrote-rest (u .put-block .ensures) (v .put-subfields .ensures)) (w .put-text .ensures))
+    (search wrote-rest)
 
 pub put-kd-spec : {M : Type 1} → statement M
 put-kd-spec =

@@ -8,11 +8,8 @@ use Rattle.writer.proofs.kd.put_subfields.Tie as tie
 
 returns : tie.Need-returns
 returns c =
-    let w = c .before .before in
-    let v = w .before .before .before .before in
-    let a = v .before .before .before .before .before .before .args in
-    wrote-as (three (a .p) (a .idk1 .now) (a .idk2 .now) (omega arith))
-    (wrote-rest (v .put-two .ensures) (w .put-name .ensures))
+    let a = c .before .before .before .before .before .before .before .before .before .before .before .before .args in
+    wrote-as (three (a .p) (a .idk1 .now) (a .idk2 .now) (omega arith)) (search wrote-rest)
 
 returns-2 : tie.Need-returns-2
 returns-2 c =

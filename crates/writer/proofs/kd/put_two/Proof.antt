@@ -4,11 +4,6 @@ use borrow.Author.Needs.{needs}
 use Rattle.writer.proofs.kd.put_two.Statement.{statement}
 use Rattle.writer.proofs.kd.put_two.Tie as tie
 
-returns : tie.Need-returns
-returns c =
-    let w = c .before .before in
-    wrote-rest (w .before .before .before .before .put-mark .ensures) (w .put-name .ensures)
-
 pub put-two-spec : {M : Type 1} → statement M
 put-two-spec =
     tie.close
@@ -20,4 +15,4 @@ put-two-spec =
     (λ c κs. search needs)
     (λ c. search needs)
     (λ c. search needs)
-    returns)
+    (λ c. search wrote-rest))
