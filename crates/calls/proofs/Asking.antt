@@ -1,5 +1,5 @@
 -- What the tests of a request mean in the paper's terms.
-use mathlib.Core.Path.{_≡_, refl}
+use mathlib.Core.Path.{_≡_}
 use mathlib.Core.Bool.{Bool, true, false, not, _&&_, true≢false, _||_}
 use mathlib.Core.List.{_∷_, []}
 use Prim.Native.Nat.{_/_, _%_, _≤_}
@@ -17,8 +17,9 @@ use Rattle.calls.specs.Words.{if_then_else_, any}
 use Rattle.calls.specs.Receive.{is-waiting}
 use Rattle.calls.specs.Build.{used, not-odd, bad-key, bad-keys, malformed, wants-idk1}
 use Rattle.calls.specs.Good.{Uses, only, first, second, Odd-where-marked, Formed-key, Formed-request, Good-request}
-use Rattle.calls.proofs.Tests.{or-split}
-use Rattle.calls.proofs.Passing.{Fit}
+use Rattle.calls.proofs.Tests.{or-split, by-test}
+use Rattle.calls.proofs.Accepting.{Fit}
+use Rattle.calls.proofs.Requests.{tested}
 
 -- ---- the keys that are used
 
@@ -49,12 +50,10 @@ data Number (q : Request) : Type 0 where
 
 number : (q : Request) → Number q
 unfolding used if_then_else_
-number q = go (eqb (q .count) 1) refl (eqb (q .count) 2) refl
-  where
-    go : (a : Bool) → eqb (q .count) 1 ≡ a → (b : Bool) → eqb (q .count) 2 ≡ b → Number q
-    go true p b r = one (eqb-true (q .count) 1 p)
-    go false p true r = two (eqb-true (q .count) 2 r)
-    go false p false r = neither (eqb-false (q .count) 1 p) (eqb-false (q .count) 2 r) (rw (p, r))
+number q =
+    by-test (eqb (q .count) 1) (λ p. one (eqb-true (q .count) 1 p)) λ p.
+    by-test (eqb (q .count) 2) (λ r. two (eqb-true (q .count) 2 r)) λ r.
+    neither (eqb-false (q .count) 1 p) (eqb-false (q .count) 2 r) (rw (p, r))
 
 pub all-used : (f : KeyRequest → Bool) (q : Request) → ((k : KeyRequest) → Uses q k → f k ≡ false) → any f (used q) ≡ false
 unfolding any
@@ -74,11 +73,7 @@ marked-odd k h p =
 
 odd-marked : (k : KeyRequest) → (k .flags % 2 ≡ 1 → odd (k .key) ≡ true) → not-odd k ≡ false
 unfolding not-odd
-odd-marked k h = go (eqb (k .flags % 2) 1) refl
-  where
-    go : (b : Bool) → eqb (k .flags % 2) 1 ≡ b → not-odd k ≡ false
-    go true p = rw (p, h (eqb-true (k .flags % 2) 1 p))
-    go false p = rw p
+odd-marked k h = by-test (eqb (k .flags % 2) 1) (λ p. rw (p, h (eqb-true (k .flags % 2) 1 p))) (λ p. rw p)
 
 pub odd-where-marked : (q : Request) → any not-odd (used q) ≡ false → Odd-where-marked q
 odd-where-marked q h k u = marked-odd k (of-used not-odd q h k u)
@@ -101,69 +96,34 @@ formed-key k h =
 
 key-formed : (k : KeyRequest) → Formed-key k → bad-key k ≡ false
 unfolding bad-key
-key-formed k h = go (eqb (k .flags / 2 % 2) 1) refl
-  where
-    go : (b : Bool) → eqb (k .flags / 2 % 2) 1 ≡ b → bad-key k ≡ false
-    go true p = rw (lt-ltb (k .flags) 8 (h .flags), p, h .name (eqb-true (k .flags / 2 % 2) 1 p))
-    go false p = rw (lt-ltb (k .flags) 8 (h .flags), p)
-
--- what is tested of a request, one by one
-record Tested (q : Request) : Type 0 where
-  keys : bad-keys (used q) ≡ false
-  kind : not (ltb (q .kind) 3) ≡ false
-  dated : not (ltb (q .dated) 2) ≡ false
-  date : eqb (q .dated) 1 && not (is-date (q .date .digits)) ≡ false
-
-tested : (q : Request) → malformed q ≡ false → Tested q
-unfolding malformed
-tested q h =
-    let a = or-split _ (eqb (q .dated) 1 && not (is-date (q .date .digits))) h in
-    let b = or-split _ (not (ltb (q .dated) 2)) (a .0) in
-    let c = or-split (bad-keys (used q)) (not (ltb (q .kind) 3)) (b .0) in
-    record { keys = c .0; kind = c .1; dated = b .1; date = a .1 }
+key-formed k h =
+    let f = lt-ltb (k .flags) 8 (h .flags) in
+    by-test (eqb (k .flags / 2 % 2) 1) (λ p. rw (f, p, h .name (eqb-true (k .flags / 2 % 2) 1 p))) (λ p. rw (f, p))
 
 -- one key or two different ones, well formed
-record Formed-keys (q : Request) : Type 0 where
-  count : (1 ≤ q .count) × (q .count ≤ 2)
-  different : q .count ≡ 2 → q .first .key ≡ q .second .key → ⊥
-  keys : (k : KeyRequest) → Uses q k → Formed-key k
-
-formed-keys : (q : Request) → bad-keys (used q) ≡ false → Formed-keys q
+of-two : (q : Request) → bad-keys (used q) ≡ false → q .count ≡ 2
+    → (eqb (q .first .key) (q .second .key) ≡ false) × (bad-key (q .first) ≡ false) × (bad-key (q .second) ≡ false)
 unfolding bad-keys
-formed-keys q h = go (number q)
-  where
-    go : Number q → Formed-keys q
-    go (one p) =
-        let i : bad-key (q .first) ≡ false = rw (used-one q p) at h in
-        record {
-          count = (omega arith, omega arith);
-          different = λ r. absurd (omega arith);
-          keys = each i;
-        }
-      where
-        each : bad-key (q .first) ≡ false → (k : KeyRequest) → Uses q k → Formed-key k
-        each i k (only r) = formed-key (q .first) i
-        each i k (first r) = formed-key (q .first) i
-        each i k (second r) = absurd (omega arith)
-    go (two p) =
-        let i : eqb (q .first .key) (q .second .key) || bad-key (q .first) || bad-key (q .second) ≡ false =
-        rw (used-two q p) at h in
-        let a = or-split (eqb (q .first .key) (q .second .key) || bad-key (q .first)) (bad-key (q .second)) i in
-        let b = or-split (eqb (q .first .key) (q .second .key)) (bad-key (q .first)) (a .0) in
-        record {
-          count = (omega arith, omega arith);
-          different = λ r. eqb-false (q .first .key) (q .second .key) (b .0);
-          keys = each (b .1) (a .1);
-        }
-      where
-        each : bad-key (q .first) ≡ false → bad-key (q .second) ≡ false → (k : KeyRequest) → Uses q k → Formed-key k
-        each i j k (only r) = formed-key (q .first) i
-        each i j k (first r) = formed-key (q .first) i
-        each i j k (second r) = formed-key (q .second) j
-    go (neither a b p) = absurd (let i : true ≡ false = rw p at h in true≢false i)
+of-two q h p =
+    let e = eqb (q .first .key) (q .second .key) in
+    let i = or-split (e || bad-key (q .first)) (bad-key (q .second)) (rw (used-two q p) at h) in
+    let j = or-split e (bad-key (q .first)) (i .0) in
+    (j .0, j .1, i .1)
 
-keys-formed : (q : Request) → Formed-keys q → bad-keys (used q) ≡ false
-unfolding bad-keys used if_then_else_
+none-bad : (q : Request) → bad-keys (used q) ≡ false → (k : KeyRequest) → Uses q k → bad-key k ≡ false
+unfolding bad-keys
+none-bad q h k (only p) = rw (used-one q p) at h
+none-bad q h k (first p) = of-two q h p .1
+none-bad q h k (second p) = of-two q h p .2
+
+counted : (q : Request) → bad-keys (used q) ≡ false → Number q → (1 ≤ q .count) × (q .count ≤ 2)
+unfolding bad-keys
+counted q h (one p) = (omega arith, omega arith)
+counted q h (two p) = (omega arith, omega arith)
+counted q h (neither a b p) = absurd (let i : true ≡ false = rw p at h in true≢false i)
+
+keys-formed : (q : Request) → Formed-request q → bad-keys (used q) ≡ false
+unfolding bad-keys
 keys-formed q h = go (number q)
   where
     go : Number q → bad-keys (used q) ≡ false
@@ -179,11 +139,10 @@ keys-formed q h = go (number q)
 pub request-formed : (q : Request) → malformed q ≡ false → Formed-request q
 request-formed q h =
     let t = tested q h in
-    let k = formed-keys q (t .keys) in
     record {
-      count = k .count;
-      different = k .different;
-      keys = k .keys;
+      count = counted q (t .keys) (number q);
+      different = λ p. eqb-false (q .first .key) (q .second .key) (of-two q (t .keys) p .0);
+      keys = λ k u. formed-key k (none-bad q (t .keys) k u);
       iv = let i = ltb-true (q .kind) 3 (not-false _ (t .kind)) in omega arith;
       dated = let i = ltb-true (q .dated) 2 (not-false _ (t .dated)) in omega arith;
       date = λ p.
@@ -195,14 +154,10 @@ pub formed-request : (q : Request) → Formed-request q → malformed q ≡ fals
 unfolding malformed
 formed-request q h =
     rw (
-      keys-formed q (record { count = h .count; different = h .different; keys = h .keys }),
+      keys-formed q h,
       lt-ltb (q .kind) 3 (let i = h .iv in omega arith),
       lt-ltb (q .dated) 2 (let i = h .dated in omega arith),
-    ) (go (eqb (q .dated) 1) refl)
-  where
-    go : (b : Bool) → eqb (q .dated) 1 ≡ b → eqb (q .dated) 1 && not (is-date (q .date .digits)) ≡ false
-    go true p = rw (p, h .date (eqb-true (q .dated) 1 p))
-    go false p = rw p
+    ) (by-test (eqb (q .dated) 1) (λ p. rw (p, h .date (eqb-true (q .dated) 1 p))) (λ p. rw p))
 
 -- ---- all of it
 

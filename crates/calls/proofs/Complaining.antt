@@ -1,12 +1,12 @@
 -- Errors: the letters of each, and the ESM that tells them.
-use mathlib.Core.Path.{_≡_, refl, sym, ap, _∙_, subst}
+use mathlib.Core.Path.{_≡_, refl, ap, _∙_, subst}
 use mathlib.Core.Bool.{Bool, true, false, cond, not, _&&_, true≢false}
 use mathlib.Core.List.{_++_}
 use mathlib.Core.Option.{Option, none, some}
 use Prim.Native.Nat.{ℕ, _+_}
 use lib.Dec.{eqb}
-use borrow.Author.Tests.{eq-eqb}
-use Rattle.octets.specs.Text.{Text, ascii, is-name, within}
+use borrow.Author.Tests.{eq-eqb, not-false}
+use Rattle.octets.specs.Text.{Text, ascii, within}
 use Rattle.octets.specs.Part.{bare}
 use Rattle.keying.specs.Parity.{odd}
 use Rattle.csm.specs.Fields.{Kd, Class, erf}
@@ -15,10 +15,9 @@ use Rattle.csm.proofs.MessageLaws.{read-back, legal-parts as reading-parts}
 use Rattle.partner.specs.declared.KeySet.{KeySet}
 use Rattle.partner.specs.declared.Entry.{Entry}
 use Rattle.partner.specs.Entry.{limit, waiting}
-use Rattle.partner.specs.Legal as partner
 use Rattle.partner.proofs.Keeping.{rules}
-use Rattle.partner.specs.Table.{Table, legal}
-use Rattle.calls.specs.Words.{any}
+use Rattle.partner.specs.Table.{Table}
+use Rattle.calls.specs.Words.{if_then_else_, any}
 use Rattle.calls.specs.Outcome.{F, I, K, M, O, P, Turn}
 use Rattle.calls.specs.Receive as by-class
 use Rattle.calls.specs.Receive.{error, esm-body, foreign, uneven, kds, brought, when, faults}
@@ -28,12 +27,11 @@ use Rattle.calls.specs.Claims.{Carries}
 use Rattle.calls.specs.Good.{Kd-of, Ours, in-clear, Even-only-unmarked, Brings, Formed-ksm, Sealed, In-turn}
 use Rattle.calls.specs.Results.{Tells, Judged, holds, fails, unless, told-unless}
 use Rattle.calls.specs.Steps.{Comes}
-use Rattle.calls.proofs.Tests.{if-true, if-false}
+use Rattle.calls.proofs.Tests.{not-failing}
 use Rattle.calls.proofs.Readings.{esm-legal, ksm-parts}
-use Rattle.calls.proofs.Turns.{letters-legal}
-use Rattle.calls.proofs.Written.{to-them}
-use Rattle.calls.proofs.Tables.{own-name, entry-held, held-legal}
-use Rattle.calls.proofs.Accepting.{receive-turns, put-back}
+use Rattle.calls.proofs.Turns.{letters-legal, none-holds, first-count, second-count, error-written}
+use Rattle.calls.proofs.Tables.{own-name, put-back, entry-held, held-legal}
+use Rattle.calls.proofs.Accepting.{receive-turns}
 use Rattle.calls.proofs.Meaning.{of-all, of-one, ours, not-foreign, not-uneven, brings-only}
 use Rattle.calls.proofs.Meaning.{ksm-formed, formed-ksm, is-sealed, sealed-is, in-turn, turn-in}
 
@@ -47,31 +45,6 @@ received t room text id b e r g c p =
 
 -- ---- an error tells its letters
 
--- the counts of an ESM
-abbrev first-count : Option (ℕ × ℕ) → Option ℕ
-first-count none = none
-first-count (some (x, y)) = some x
-
-abbrev second-count : Option (ℕ × ℕ) → Option ℕ
-second-count none = none
-second-count (some (x, y)) = some y
-
-error-tells : (us : Text) (e : Entry) (n : ℕ) (o : Option (ℕ × ℕ)) → is-name us ≡ true → partner.legal e ≡ true
-    → legal-body (esm-body n o) ≡ true
-    → Tells us (bare (e .identity .bytes)) (erf .text n) (first-count o) (second-count o) (error us e n o .outcome)
-error-tells us e n none u l h = record {
-  answered = refl;
-  spelled = refl;
-  written = to-them us e u l (esm-body n none) refl h;
-  no-more = refl;
-}
-error-tells us e n (some (x, y)) u l h = record {
-  answered = refl;
-  spelled = refl;
-  written = to-them us e u l (esm-body n (some (x, y))) refl h;
-  no-more = refl;
-}
-
 -- a call whose turn is an error
 pub told : (t : Table) (room : ℕ) (text id : Text) (b : Body) (e : Entry) (n : ℕ) (o : Option (ℕ × ℕ))
     → Comes t room id e → Carries id (bare (t .own)) b text
@@ -80,65 +53,42 @@ pub told : (t : Table) (room : ℕ) (text id : Text) (b : Body) (e : Entry) (n :
 told t room text id b e n o g c p h =
     let us = bare (t .own) in
     let k = entry-held t id e (g .known) in
-    subst (λ (a : After). Tells us id (erf .text n) (first-count o) (second-count o) (a .outcome))
-    (sym (received t room text id b e (error us e n o) g c p))
+    rw (received t room text id b e (error us e n o) g c p)
     (subst (λ (them : Text). Tells us them (erf .text n) (first-count o) (second-count o) (error us e n o .outcome))
-    (k .bare-identity)
-    (error-tells us e n o (own-name t (g .lawful)) (held-legal t id e (g .lawful) k) h))
+    (k .bare-identity) (record {
+      answered = refl;
+      spelled = refl;
+      written = error-written us e (own-name t (g .lawful)) (held-legal t id e (g .lawful) k) n o h;
+      no-more = refl;
+    }))
 
 -- ---- a KSM: I alone, K alone
-
--- one of its KDs has a foreign name
-some-foreign : (e : Entry) (m : Ksm) (k : Kd) → Kd-of m k → (Ours e k → ⊥) → any (foreign e) (kds m) ≡ true
-some-foreign e m k i n = of-one (foreign e) m k i (go (foreign e k) refl)
-  where
-    go : (b : Bool) → foreign e k ≡ b → b ≡ true
-    go true p = refl
-    go false p = absurd (n (ours e k p))
-
-foreign-turn : (us : Text) (e : Entry) (text : Text) (m : Ksm) → any (foreign e) (kds m) ≡ true
-    → by-class.receive us e text (ksm m) ≡ error us e I none
-unfolding by-class.receive receive-ksm
-foreign-turn us e text m h = if-true (any (foreign e) (kds m)) _ _ h
-
-pub foreign-is-I : (t : Table) (room : ℕ) (text id : Text) (m : Ksm) (e : Entry) → Comes t room id e
-    → Carries id (bare (t .own)) (ksm m) text → (k : Kd) → Kd-of m k → (Ours e k → ⊥)
-    → Tells (bare (t .own)) id (ascii "I") none none (run t (receive room text) .outcome)
-foreign-is-I t room text id m e g c k i n =
-    told t room text id (ksm m) e I none g c (foreign-turn (bare (t .own)) e text m (some-foreign e m k i n))
-    (esm-legal I refl refl)
 
 no-foreign : (e : Entry) (m : Ksm) → ((k : Kd) → Kd-of m k → Ours e k) → any (foreign e) (kds m) ≡ false
 no-foreign e m h = of-all (foreign e) m (λ k i. not-foreign e k (h k i))
 
-uneven-turn : (us : Text) (e : Entry) (text : Text) (m : Ksm) → any (foreign e) (kds m) ≡ false
-    → any (uneven e m) (kds m) ≡ true → by-class.receive us e text (ksm m) ≡ error us e K none
-unfolding by-class.receive receive-ksm
-uneven-turn us e text m f h = if-false (any (foreign e) (kds m)) _ _ f ∙ if-true (any (uneven e m) (kds m)) _ _ h
+module _ (t : Table) (room : ℕ) (text id : Text) (m : Ksm) (e : Entry) (g : Comes t room id e)
+    (c : Carries id (bare (t .own)) (ksm m) text) where
+  pub foreign-is-I : (k : Kd) → Kd-of m k → (Ours e k → ⊥)
+      → Tells (bare (t .own)) id (ascii "I") none none (run t (receive room text) .outcome)
+  unfolding by-class.receive receive-ksm if_then_else_
+  foreign-is-I k i n =
+      told t room text id (ksm m) e I none g c
+      (rw (of-one (foreign e) m k i (not-failing (foreign e k) (λ p. n (ours e k p))))) (esm-legal I refl refl)
 
-is-uneven : (e : Entry) (m : Ksm) (k : Kd) → k .p ≡ true → odd (in-clear e m k) ≡ false → uneven e m k ≡ true
-unfolding uneven
-is-uneven e m k p h = rw (p, h)
-
-pub even-is-K : (t : Table) (room : ℕ) (text id : Text) (m : Ksm) (e : Entry) → Comes t room id e
-    → Carries id (bare (t .own)) (ksm m) text → ((k : Kd) → Kd-of m k → Ours e k)
-    → (k : Kd) → Kd-of m k → k .p ≡ true → odd (in-clear e m k) ≡ false
-    → Tells (bare (t .own)) id (ascii "K") none none (run t (receive room text) .outcome)
-even-is-K t room text id m e g c f k i p h =
-    told t room text id (ksm m) e K none g c
-    (uneven-turn (bare (t .own)) e text m (no-foreign e m f) (of-one (uneven e m) m k i (is-uneven e m k p h)))
-    (esm-legal K refl refl)
+  pub even-is-K : ((k : Kd) → Kd-of m k → Ours e k) → (k : Kd) → Kd-of m k → k .p ≡ true → odd (in-clear e m k) ≡ false
+      → Tells (bare (t .own)) id (ascii "K") none none (run t (receive room text) .outcome)
+  unfolding by-class.receive receive-ksm uneven if_then_else_
+  even-is-K f k i p h =
+      told t room text id (ksm m) e K none g c
+      (rw (no-foreign e m f, of-one (uneven e m) m k i (rw (p, h)))) (esm-legal K refl refl)
 
 -- ---- then F, M and P together
 
 -- a test fails exactly where its condition holds
 judged-by : {P : Type 0} (test b : Bool) → (test ≡ false → P) → (P → test ≡ false) → Judged P b → test ≡ not b
 judged-by test b f g (holds p) = g p
-judged-by test b f g (fails n) = go test refl
-  where
-    go : (x : Bool) → test ≡ x → test ≡ true
-    go true q = q
-    go false q = absurd (n (f q))
+judged-by test b f g (fails n) = not-failing test (λ q. n (f q))
 
 -- the letters of what fails
 abbrev pub letters : Bool → Bool → Bool → ℕ
@@ -155,14 +105,10 @@ spelled false false true = refl
 spelled false false false = refl
 
 some-letter : (f s c : Bool) → f && s && c ≡ false → not (eqb (letters f s c) 0) ≡ true
-some-letter true true true h = absurd (true≢false h)
-some-letter true true false h = refl
-some-letter true false true h = refl
-some-letter true false false h = refl
-some-letter false true true h = refl
-some-letter false true false h = refl
-some-letter false false true h = refl
-some-letter false false false h = refl
+some-letter f s c h =
+    not-failing (not (eqb (letters f s c) 0)) (λ p.
+    let i = none-holds (not f) (not s) (not c) (not-false _ p) in
+    true≢false (rw (not-false f (i .0), not-false s (i .1), not-false c (i .2)) at h))
 
 -- the counts where the count is wrong
 abbrev pub counts : Bool → ℕ → ℕ → Option (ℕ × ℕ)
@@ -174,16 +120,6 @@ counts-told : (us id w : Text) (x y : ℕ) (a : After) (c : Bool)
 counts-told us id w x y a true h = h
 counts-told us id w x y a false h = h
 
-faults-turn : (us : Text) (e : Entry) (text : Text) (m : Ksm) (f s c : Bool) → any (foreign e) (kds m) ≡ false
-    → any (uneven e m) (kds m) ≡ false → bad-format (brought e m) m ≡ not f
-    → bad-mac (brought e m) text (m .mac) ≡ not s → bad-count (e .receiving .expected) (m .ctp) ≡ not c
-    → not (eqb (letters f s c) 0) ≡ true
-    → by-class.receive us e text (ksm m) ≡ error us e (letters f s c) (counts c (e .receiving .expected) (m .ctp))
-unfolding by-class.receive receive-ksm judged faults
-faults-turn us e text m f s c n u p q r h =
-    if-false (any (foreign e) (kds m)) _ _ n ∙ if-false (any (uneven e m) (kds m)) _ _ u
-    ∙ rw (p, q, r) (if-true (not (eqb (letters f s c) 0)) _ _ h)
-
 -- what is judged so, of a KSM with good names and parity
 module _ (us : Text) (e : Entry) (text : Text) (m : Ksm) (set : KeySet) (f s c : Bool) (l : within 1 limit (m .ctp) ≡ true)
     (n : (k : Kd) → Kd-of m k → Ours e k) (u : (k : Kd) → Kd-of m k → Even-only-unmarked e m k) (b : Brings e m set)
@@ -191,6 +127,7 @@ module _ (us : Text) (e : Entry) (text : Text) (m : Ksm) (set : KeySet) (f s c :
     (jc : Judged (In-turn (e .receiving .expected) (m .ctp)) c) where
   pub judged-turn : f && s && c ≡ false
       → by-class.receive us e text (ksm m) ≡ error us e (letters f s c) (counts c (e .receiving .expected) (m .ctp))
+  unfolding by-class.receive receive-ksm judged faults if_then_else_
   judged-turn h =
       let i = brings-only e m set b in
       let p : bad-format (brought e m) m ≡ not f =
@@ -201,8 +138,8 @@ module _ (us : Text) (e : Entry) (text : Text) (m : Ksm) (set : KeySet) (f s c :
       (judged-by (bad-mac set text (m .mac)) s (is-sealed set text (m .mac)) (sealed-is set text (m .mac)) js) in
       let r = judged-by (bad-count (e .receiving .expected) (m .ctp)) c (in-turn (e .receiving .expected) (m .ctp) l)
       (turn-in (e .receiving .expected) (m .ctp)) jc in
-      faults-turn us e text m f s c (no-foreign e m n) (of-all (uneven e m) m (λ k j. not-uneven e m k (u k j))) p q r
-      (some-letter f s c h)
+      let v = of-all (uneven e m) m (λ k j. not-uneven e m k (u k j)) in
+      rw (no-foreign e m n, v, p, q, r, some-letter f s c h)
 
 pub faults-told : (t : Table) (room : ℕ) (text id : Text) (m : Ksm) (e : Entry) (set : KeySet) (f s c : Bool)
     → Comes t room id e → Carries id (bare (t .own)) (ksm m) text
@@ -224,30 +161,17 @@ faults-told t room text id m e set f s c g x n u b jf js jc h =
 
 -- ---- an RSM whose MAC differs: M; an option: O
 
-bad-rsm-turn : (us : Text) (e : Entry) (text : Text) (m : Rsm) → e .sending .phase ≡ waiting
-    → bad-mac (e .sending .outgoing) text (m .mac) ≡ true → by-class.receive us e text (rsm m) ≡ error us e M none
-unfolding by-class.receive receive-rsm is-waiting
-bad-rsm-turn us e text m w h =
-    if-false (not (eqb (e .sending .phase) waiting)) _ _ (ap not (eq-eqb (e .sending .phase) waiting w))
-    ∙ if-true (bad-mac (e .sending .outgoing) text (m .mac)) _ _ h
-
 pub bad-rsm : (t : Table) (room : ℕ) (text id : Text) (m : Rsm) (e : Entry) → Comes t room id e
     → Carries id (bare (t .own)) (rsm m) text → e .sending .phase ≡ waiting → (Sealed (e .sending .outgoing) text (m .mac) → ⊥)
     → Tells (bare (t .own)) id (ascii "M") none none (run t (receive room text) .outcome)
+unfolding by-class.receive receive-rsm is-waiting if_then_else_
 bad-rsm t room text id m e g c w n =
-    told t room text id (rsm m) e M none g c
-    (bad-rsm-turn (bare (t .own)) e text m w
-    (judged-by (bad-mac (e .sending .outgoing) text (m .mac)) false (is-sealed (e .sending .outgoing) text (m .mac))
-    (sealed-is (e .sending .outgoing) text (m .mac)) (fails n)))
-    (esm-legal M refl refl)
-
-option-turn : (us : Text) (e : Entry) (text : Text) (c : Class) (w : Text)
-    → by-class.receive us e text (option c w) ≡ error us e O none
-unfolding by-class.receive
-option-turn us e text c w = refl
+    let b = not-failing (bad-mac (e .sending .outgoing) text (m .mac))
+    (λ p. n (is-sealed (e .sending .outgoing) text (m .mac) p)) in
+    told t room text id (rsm m) e M none g c (rw (eq-eqb (e .sending .phase) waiting w, b)) (esm-legal M refl refl)
 
 pub option-told : (t : Table) (room : ℕ) (text id : Text) (c : Class) (w : Text) (e : Entry) → Comes t room id e
     → Carries id (bare (t .own)) (option c w) text
     → Tells (bare (t .own)) id (ascii "O") none none (run t (receive room text) .outcome)
-option-told t room text id c w e g x =
-    told t room text id (option c w) e O none g x (option-turn (bare (t .own)) e text c w) (esm-legal O refl refl)
+unfolding by-class.receive
+option-told t room text id c w e g x = told t room text id (option c w) e O none g x refl (esm-legal O refl refl)

@@ -7,7 +7,6 @@ use Prim.Native.Nat.{ℕ}
 use Rattle.octets.specs.Text.{Text, same}
 use Rattle.octets.specs.Part.{bare}
 use Rattle.csm.specs.Message.{Reading, read}
-use Rattle.csm.proofs.TextLaws.{none-some, some-inj}
 use Rattle.csm.proofs.MessageLaws.{read-back, legal-parts as reading-parts}
 use Rattle.partner.specs.declared.Entry.{Entry}
 use Rattle.partner.specs.Legal as partner
@@ -18,6 +17,7 @@ use Rattle.calls.specs.Calls.{Act, build-ksm, build-rsi, give-up, remove
 use Rattle.calls.specs.Calls.{entry-of, after-turn, at-partner, receiving, emptied, short, no-room, acting, perform, run}
 use Rattle.partner.specs.Table.{holding}
 use Rattle.calls.specs.Claims.{sender, subject, Of-one-entry}
+use Rattle.calls.proofs.Tests.{by-part}
 use Rattle.calls.proofs.Turns.{Does, does-change, change-identity, receive-does, build-ksm-does}
 use Rattle.calls.proofs.Turns.{build-rsi-does, give-up-does}
 use Rattle.calls.proofs.Tables.{own-name, Held, entry-held, held-legal}
@@ -36,13 +36,10 @@ does-keeping {e = e} r d = change-identity e (r .entry) (does-change r d)
 
 module _ (t : Table) (s : List Entry) (lawful : legal t ≡ true) (lawful′ : legal (holding t s) ≡ true) where
   module _ (id : Text) (same-entry : entry-of id t ≡ entry-of id (holding t s)) where
-    alike-refused : (n : ℕ) → Alike id (refuse t n) (refuse (holding t s) n)
-    alike-refused n = (refl, same-entry)
-
     alike-if : (b : Bool) (x y : After) (n : ℕ) → Alike id x y
         → Alike id (if b then refuse t n else x) (if b then refuse (holding t s) n else y)
     unfolding if_then_else_
-    alike-if true x y n h = alike-refused n
+    alike-if true x y n h = (refl, same-entry)
     alike-if false x y n h = h
 
     -- both tables have the entry, or neither has
@@ -51,17 +48,10 @@ module _ (t : Table) (s : List Entry) (lawful : legal t ≡ true) (lawful′ : l
         → Alike id (after-turn t id f (some e)) (after-turn (holding t s) id f (some e)))
         → Alike id (at-partner t id f) (at-partner (holding t s) id f)
     unfolding at-partner
-    alike-found f k = go (entry-of id t) refl (entry-of id (holding t s)) refl
-      where
-        go : (o : Option Entry) → entry-of id t ≡ o → (p : Option Entry) → entry-of id (holding t s) ≡ p
-            → Alike id (after-turn t id f o) (after-turn (holding t s) id f p)
-        go none q none r = alike-refused 3
-        go none q (some e) r = absurd (none-some e (sym q ∙ same-entry ∙ r))
-        go (some e) q none r = absurd (none-some e (sym r ∙ sym same-entry ∙ q))
-        go (some e) q (some x) r =
-            let i : e ≡ x = some-inj (sym q ∙ same-entry ∙ r) in
-            subst (λ (y : Entry). Alike id (after-turn t id f (some e)) (after-turn (holding t s) id f (some y))) i
-            (k e (entry-held t id e q) (entry-held (holding t s) id e (sym same-entry ∙ q)))
+    alike-found f k =
+        by-part (entry-of id t) (λ q. rw (q, sym same-entry ∙ q) (refl, cc))
+        (λ e q. let r = sym same-entry ∙ q in
+        rw (q, r) (k e (entry-held t id e q) (entry-held (holding t s) id e r)))
 
     alike-partner : (f : Entry → Turn) → Keeping f → Alike id (at-partner t id f) (at-partner (holding t s) id f)
     alike-partner f k =
@@ -110,8 +100,6 @@ module _ (t : Table) (s : List Entry) (lawful : legal t ≡ true) (lawful′ : l
 pub alike : (t u : Table) (c : Call) → Of-one-entry c → legal t ≡ true → legal u ≡ true → t .own ≡ u .own
     → entry-of (subject c) t ≡ entry-of (subject c) u → Alike (subject c) (run t c) (run u c)
 alike t u c o a b w h =
+    let p : holding t (u .slots) ≡ u = λ j. record { own = w j; slots = u .slots } in
     subst (λ (x : Table). legal x ≡ true → entry-of (subject c) t ≡ entry-of (subject c) x
     → Alike (subject c) (run t c) (run x c)) p (λ b h. alike-run t (u .slots) a b c o h) b h
-  where
-    p : holding t (u .slots) ≡ u
-    p = λ j. record { own = w j; slots = u .slots }

@@ -5,7 +5,6 @@ use mathlib.Core.List.{List, _∷_, []}
 use mathlib.Core.Option.{Option, none, some}
 use Prim.Native.Nat.{ℕ, _^_, _≤_, _<_}
 use Prim.Native.Char.{code}
-use native.Mathlib.Omega.{arith}
 use lib.Dec.{eqb}
 use Rattle.octets.specs.Text.{Text, same}
 use Rattle.octets.specs.Part.{bare, found}
@@ -26,24 +25,22 @@ use Rattle.partner.specs.declared.Name.{Name}
 use Rattle.partner.specs.declared.KeySet.{KeySet}
 use Rattle.partner.specs.declared.Entry.{Entry}
 use Rattle.partner.specs.Entry.{name-of, top-of, keys-in, one-key, two-keys}
-use Rattle.partner.specs.Changes.{issued}
 use Rattle.partner.specs.Table.{Table}
 use Rattle.calls.specs.declared.KeyRequest.{KeyRequest}
 use Rattle.calls.specs.declared.Request.{Request}
 use Rattle.calls.specs.Words.{if_then_else_, any, some-has}
 use Rattle.calls.specs.Receive.{foreign, deciphered, uneven, kds, brought-key, brought, iv-value, iv-of}
-use Rattle.calls.specs.Receive.{bad-format, is-waiting}
+use Rattle.calls.specs.Receive.{bad-format}
 use Rattle.calls.specs.Build.{used, not-odd, wants-p, wants-idk1, wants-idk2, outgoing-key, outgoing-of}
 use Rattle.calls.specs.Build.{asked, kd-for, iv-for, ksm-text}
-use Rattle.calls.specs.Outcome.{keys}
 use Rattle.calls.specs.Calls.{receive, After, run}
 use Rattle.calls.specs.Claims.{Carries, Sized}
-use Rattle.calls.specs.Steps.{Partners, iv-asked, date-asked, after-taken}
-use Rattle.calls.proofs.Passing.{Passes, Taken-in, Fit}
+use Rattle.calls.specs.Steps.{Partners, iv-asked, after-taken}
+use Rattle.calls.proofs.Tests.{by-test}
 use Rattle.calls.proofs.Requests.{Keyed, one, two, Formed, formed, not-two}
 use Rattle.calls.proofs.Tables.{own-name, entry-held, held-legal}
 use Rattle.calls.proofs.Written.{sent, sent-written, sent-sealed}
-use Rattle.calls.proofs.Accepting.{ksm-accepted, request-built}
+use Rattle.calls.proofs.Accepting.{Passes, Taken-in, Fit, ksm-accepted, request-built}
 
 -- ---- keys and names arrive
 
@@ -75,44 +72,28 @@ module _ (us : Text) (e f : Entry) (q : Request) (same-top : top-of (e .top) ≡
     name = name-of (name-back (wants-idk1 k) (bare (k .name .bytes)) j);
   }
 
-  pub keys-back : Sized q → brought f (sent us e q) ≡ outgoing-of q
+  pub keys-back : q .first .key < 2 ^ 64 → q .second .key < 2 ^ 64 → brought f (sent us e q) ≡ outgoing-of q
   unfolding brought outgoing-of if_then_else_ sent
-  keys-back s = go (eqb (q .count) 2)
-    where
-      a : brought-key f (sent us e q) (kd-for e (q .first)) ≡ outgoing-key (q .first)
-      a = data-key-back (q .first) (s .first)
-
-      b : brought-key f (sent us e q) (kd-for e (q .second)) ≡ outgoing-key (q .second)
-      b = data-key-back (q .second) (s .second)
-
-      go : (x : Bool) → elim (asked x (kd-for e (q .second))) as (λ o. KeySet) [
-        | none ↦ one-key (brought-key f (sent us e q) (kd-for e (q .first)))
-        | some k ↦ two-keys (brought-key f (sent us e q) (kd-for e (q .first))) (brought-key f (sent us e q) k)
-      ]
-          ≡ (if x then two-keys (outgoing-key (q .first)) (outgoing-key (q .second)) else
-          one-key (outgoing-key (q .first)))
-      go true = λ j. two-keys (a j) (b j)
-      go false = λ j. one-key (a j)
+  keys-back x y =
+      let a = data-key-back (q .first) x in
+      let b = data-key-back (q .second) y in
+      by-test (eqb (q .count) 2) (λ p. rw p (λ j. two-keys (a j) (b j))) (λ p. rw p (λ j. one-key (a j)))
 
   -- ---- no foreign name, no uneven key
 
-  in-force : (b : Bool) → e .top .name ≡ f .top .name
-      → not (same (elim (asked b (bare (e .top .name .bytes))) as (λ o. Text) [ none ↦ bare (f .top .name .bytes) | some w ↦ w ])
-      (bare (f .top .name .bytes))) ≡ false
-  in-force true n =
-      ap (λ (x : Name). not (same (bare (x .bytes)) (bare (f .top .name .bytes)))) n
-      ∙ ap not (same-refl (bare (f .top .name .bytes)))
-  in-force false n = ap not (same-refl (bare (f .top .name .bytes)))
+  foreign-back : (k : KeyRequest) → e .top .name ≡ f .top .name → foreign f (kd-for e k) ≡ false
+  unfolding foreign
+  foreign-back k n =
+      let s = ap not (same-refl (bare (f .top .name .bytes))) in
+      by-test (wants-idk2 k)
+      (λ p. rw p (ap (λ (x : Name). not (same (bare (x .bytes)) (bare (f .top .name .bytes)))) n ∙ s)) (λ p. rw p s)
 
   pub no-foreign : Keyed q → e .top .name ≡ f .top .name → any (foreign f) (kds (sent us e q)) ≡ false
-  unfolding any foreign
+  unfolding any
   no-foreign (one p b) n =
-      ap (any (foreign f)) (one-sent us e q (not-two q p))
-      ∙ ap (λ (x : Bool). x || false) (in-force (wants-idk2 (q .first)) n)
+      ap (any (foreign f)) (one-sent us e q (not-two q p)) ∙ rw (foreign-back (q .first) n)
   no-foreign (two p r b c) n =
-      ap (any (foreign f)) (two-sent us e q r)
-      ∙ ap (λ (x : Bool). x || (foreign f (kd-for e (q .second)) || false)) (in-force (wants-idk2 (q .first)) n)
-      ∙ ap (λ (x : Bool). x || false) (in-force (wants-idk2 (q .second)) n)
+      ap (any (foreign f)) (two-sent us e q r) ∙ rw (foreign-back (q .first) n, foreign-back (q .second) n)
 
   uneven-back : (k : KeyRequest) → k .key < 2 ^ 64 → uneven f (sent us e q) (kd-for e k) ≡ not-odd k
   unfolding uneven not-odd
@@ -122,15 +103,11 @@ module _ (us : Text) (e f : Entry) (q : Request) (same-top : top-of (e .top) ≡
       → any (uneven f (sent us e q)) (kds (sent us e q)) ≡ false
   unfolding any used if_then_else_
   no-uneven (one p b) s h =
-      let a : not-odd (q .first) || false ≡ false = rw p at h in
       ap (any (uneven f (sent us e q))) (one-sent us e q (not-two q p))
-      ∙ ap (λ (x : Bool). x || false) (uneven-back (q .first) (s .first)) ∙ a
+      ∙ rw (uneven-back (q .first) (s .first)) (rw p at h)
   no-uneven (two p r b c) s h =
-      let a : not-odd (q .first) || (not-odd (q .second) || false) ≡ false = rw (p, r) at h in
       ap (any (uneven f (sent us e q))) (two-sent us e q r)
-      ∙ ap (λ (x : Bool). x || (uneven f (sent us e q) (kd-for e (q .second)) || false))
-      (uneven-back (q .first) (s .first))
-      ∙ ap (λ (x : Bool). not-odd (q .first) || (x || false)) (uneven-back (q .second) (s .second)) ∙ a
+      ∙ rw (uneven-back (q .first) (s .first), uneven-back (q .second) (s .second)) (rw (p, r) at h)
 
 -- ---- the IV and the date arrive
 
@@ -176,12 +153,7 @@ iv-back q h = go (eqb (q .kind) 1) (eqb (q .kind) 2)
 date-back : (q : Request) → Formed q
     → some-has (λ w. not (is-date w)) (asked (eqb (q .dated) 1) (q .date .digits)) ≡ false
 unfolding some-has
-date-back q f = go (eqb (q .dated) 1) (f .date)
-  where
-    go : (b : Bool) → b && not (is-date (q .date .digits)) ≡ false
-        → some-has (λ w. not (is-date w)) (asked b (q .date .digits)) ≡ false
-    go true h = h
-    go false h = refl
+date-back q f = by-test (eqb (q .dated) 1) (λ p. rw p (rw p at (f .date))) (λ p. rw p)
 
 format-back : (us : Text) (e : Entry) (q : Request) → Formed q → Sized q
     → bad-format (outgoing-of q) (sent us e q) ≡ false
@@ -192,40 +164,25 @@ pub iv-arrives : (us : Text) (e : Entry) (q : Request) → Sized q → iv-of (ou
 unfolding sent
 iv-arrives us e q s = iv-back q (s .iv) .value
 
-pub date-arrives : (us : Text) (e : Entry) (q : Request) → sent us e q .edk ≡ date-asked q
-unfolding sent
-date-arrives us e q = refl
-
 -- ---- what was built is good
-
-pub sent-count : (us : Text) (e : Entry) (q : Request) → sent us e q .ctp ≡ e .sending .next
-unfolding sent
-sent-count us e q = refl
 
 module _ (us : Text) (e f : Entry) (q : Request) (good : Fit e q) (sized : Sized q) where
   pub sent-good : (text : Text) → top-of (e .top) ≡ top-of (f .top) → e .top .name ≡ f .top .name → f .receiving .expected ≤ e .sending .next
       → sent us e q .mac ≡ mac (mac-key (keys-in (outgoing-of q))) (covered text) → Passes f text (sent us e q)
+  unfolding sent
   sent-good text t n x s =
       let d = formed q (good .formed) in
-      let k = keys-back us e f q t sized in
+      let k = keys-back us e f q t (sized .first) (sized .second) in
       record {
         names = no-foreign us e f q t (d .keys) n;
         parity = no-uneven us e f q t (d .keys) sized (good .parity);
         format = ap (λ (set : KeySet). bad-format set (sent us e q)) k ∙ format-back us e q d sized;
         sealed = s ∙ ap (λ (set : KeySet). mac (mac-key (keys-in set)) (covered text)) (sym k);
-        fresh = let c = sent-count us e q in omega (arith, x);
-        not-last = let c = sent-count us e q in omega (arith, good .not-last);
+        fresh = x;
+        not-last = good .not-last;
       }
 
 -- ---- the exchange
-
-pub issued-waits : (e : Entry) (set : KeySet) → is-waiting (issued (e .sending) set) ≡ true
-unfolding issued is-waiting
-issued-waits e set = refl
-
-pub issued-outgoing : (e : Entry) (set : KeySet) → issued (e .sending) set .outgoing ≡ set
-unfolding issued
-issued-outgoing e set = refl
 
 module _ (t u : Table) (e f : Entry) (q : Request) (room : ℕ) (p : Partners t u e f) (good : Fit e q)
     (sized : Sized q) (roomy : 256 ≤ room) where

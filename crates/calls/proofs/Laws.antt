@@ -13,7 +13,6 @@ use Rattle.csm.proofs.TextLaws.{some-inj, none-some}
 use Rattle.partner.specs.declared.Name.{Name}
 use Rattle.partner.specs.declared.Entry.{Entry}
 use Rattle.partner.specs.Entry.{empty, filled}
-use Rattle.partner.specs.Legal as partner
 use Rattle.partner.proofs.Claims.{claims}
 use Rattle.partner.specs.Table.{Table, legal, slots-legal, identities, differs, apart, put}
 use Rattle.calls.specs.Outcome.{Turn, refusal}
@@ -94,17 +93,13 @@ module _ (t : Table) (id : Text) (R : Text → Type 0) where
     differ = g;
   })
 
-  turned-legal : (e : Entry) (r : Turn) → legal t ≡ true → Held t id e → Does (bare (t .own)) e R r
-      → partner.legal (r .entry) ≡ true
-  turned-legal e r l q d = change-legal e (r .entry) (does-change r d) (held-legal t id e l q)
-
   pub legals : (a : After) → Effect t id R a → legal t ≡ true → legal (a .table) ≡ true
   legals a (refuses n k) h = h
   legals a (turns e r l q d) h =
       let p = legal-parts t h in
       let i = turned-identity e r q d in
       let n = claims .filled-is-filled id (q .name) in
-      let g = turned-legal e r l q d in
+      let g = change-legal e (r .entry) (does-change r d) (held-legal t id e l q) in
       stays-whole (put (filled id) (r .entry) (t .slots)) p (row-put (filled id) (t .slots) (r .entry) i)
       (legal-put (filled id) (t .slots) (r .entry) (p .entries) (legal-slot (r .entry) g))
       (rw (identities-put (filled id) n (t .slots) (r .entry) (legal-full (r .entry) g) i) (p .differ))
@@ -131,16 +126,12 @@ module _ (t : Table) (id : Text) (R : Text → Type 0) where
 
   pub counts : (a : After) (e f : Entry) → Effect t id R a → entry-of id t ≡ some e → entry-of id (a .table) ≡ some f
       → (e .sending .next ≤ f .sending .next) × (e .receiving .expected ≤ f .receiving .expected)
-  counts a e f (refuses n k) p q =
-      let i : e ≡ f = some-inj (sym p ∙ q) in
-      subst (λ (x : Entry). (e .sending .next ≤ x .sending .next) × (e .receiving .expected ≤ x .receiving .expected)) i (omega arith, omega arith)
+  counts a e f (refuses n k) p q = let i : e ≡ f = some-inj (sym p ∙ q) in rw i (omega arith, omega arith)
   counts a e f (turns g r l h d) p q =
       let i : g ≡ e = some-inj (sym (h .found) ∙ entry-held t id e p .found) in
       let k = change-identity g (r .entry) (does-change r d) in
       let j : r .entry ≡ f = some-inj (sym (turned-after t id g (r .entry) h k) ∙ q) in
-      subst (λ (x : Entry). (x .sending .next ≤ f .sending .next) × (x .receiving .expected ≤ f .receiving .expected)) i
-      (subst (λ (x : Entry). (g .sending .next ≤ x .sending .next) × (g .receiving .expected ≤ x .receiving .expected)) j
-      (change-counts g (r .entry) (does-change r d)))
+      rw (← i, ← j) (change-counts g (r .entry) (does-change r d))
   counts a e f (loads x m l b i g n r) p q =
       let h = entry-held t id e p in
       let d = and-true (not (same (t .own) (filled id))) (differs (filled id) (identities (t .slots))) n in

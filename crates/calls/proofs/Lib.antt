@@ -1,12 +1,10 @@
 pub mod Tests
-pub mod Names
 pub mod Slots
 pub mod Identities
 pub mod Readings
 pub mod Requests
 pub mod Written
 pub mod Turns
-pub mod Passing
 pub mod Meaning
 pub mod Asking
 pub mod Making
@@ -14,7 +12,6 @@ pub mod Tables
 pub mod Effects
 pub mod Laws
 pub mod Decides
-pub mod Silence
 pub mod Accepting
 pub mod Complaining
 pub mod Exchange
@@ -24,5 +21,4 @@ pub mod Claims
 pub mod Steps
 pub mod Refusals
 pub mod Example
-pub mod Judging
 pub mod Orders

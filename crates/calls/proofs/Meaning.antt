@@ -1,8 +1,8 @@
 -- What the tests of a KSM mean in the paper's terms.
-use mathlib.Core.Path.{_≡_, refl, sym, ap, _∙_, subst}
+use mathlib.Core.Path.{_≡_, refl, sym, ap}
 use mathlib.Core.Bool.{Bool, true, false, not, true≢false, _||_}
 use mathlib.Core.List.{_∷_, []}
-use mathlib.Core.Option.{Option, none, some}
+use mathlib.Core.Option.{none, some}
 use Prim.Native.Nat.{ℕ}
 use Prim.Native.Char.{code}
 use native.Mathlib.Omega.{arith}
@@ -17,6 +17,7 @@ use Rattle.keying.specs.Iv.{reveal}
 use Rattle.keying.specs.Date.{is-date}
 use Rattle.csm.specs.Fields.{Kd, named, numeral}
 use Rattle.csm.specs.Covered.{covered}
+use Rattle.csm.proofs.TextLaws.{none-some, some-inj}
 use Rattle.csm.specs.Message.{Ksm}
 use Rattle.partner.specs.declared.DataKey.{DataKey}
 use Rattle.partner.specs.declared.KeySet.{KeySet}
@@ -28,7 +29,7 @@ use Rattle.calls.specs.Receive.{bad-count}
 use Rattle.calls.specs.Good.{Kd-of, first, second, Ours, in-clear, Even-only-unmarked, Brings-key, Brings}
 use Rattle.calls.specs.Good.{Iv, plain, enciphered, Formed-ksm, Sealed, In-turn}
 use Rattle.calls.specs.Results.{Returns-iv}
-use Rattle.calls.proofs.Tests.{or-split, by-case, never}
+use Rattle.calls.proofs.Tests.{or-split, by-test, by-part, not-failing, never}
 use Rattle.calls.proofs.Turns.{short-of-last}
 
 -- ---- its KDs
@@ -42,19 +43,12 @@ of-each f m h j (second k p) =
 
 pub of-all : (f : Kd → Bool) (m : Ksm) → ((k : Kd) → Kd-of m k → f k ≡ false) → any f (kds m) ≡ false
 unfolding any
-of-all f m h = go (m .second) refl
-  where
-    go : (o : Option Kd) → m .second ≡ o → any f (kds m) ≡ false
-    go none p = rw (p, h (m .kd) first)
-    go (some k) p = rw (p, h (m .kd) first, h k (second k p))
+of-all f m h =
+    by-part (m .second) (λ p. rw (p, h (m .kd) first)) (λ k p. rw (p, h (m .kd) first, h k (second k p)))
 
 -- one of them fails the test
 pub of-one : (f : Kd → Bool) (m : Ksm) (k : Kd) → Kd-of m k → f k ≡ true → any f (kds m) ≡ true
-of-one f m k i h = go (any f (kds m)) refl
-  where
-    go : (b : Bool) → any f (kds m) ≡ b → b ≡ true
-    go true p = refl
-    go false p = absurd (never (f k) h (of-each f m p k i))
+of-one f m k i h = not-failing (any f (kds m)) (λ p. never (f k) h (of-each f m p k i))
 
 -- ---- names and parity
 
@@ -66,11 +60,8 @@ ours e k h n p =
 
 pub not-foreign : (e : Entry) (k : Kd) → Ours e k → foreign e k ≡ false
 unfolding foreign
-not-foreign e k h = go (k .idk2) refl
-  where
-    go : (o : Option Text) → k .idk2 ≡ o → foreign e k ≡ false
-    go none p = rw (p, same-refl (bare (e .top .name .bytes)))
-    go (some n) p = rw (p, h n p, same-refl (bare (e .top .name .bytes)))
+not-foreign e k h =
+    let s = same-refl (bare (e .top .name .bytes)) in by-part (k .idk2) (λ p. rw (p, s)) (λ n p. rw (p, h n p, s))
 
 pub even-unmarked : (e : Entry) (m : Ksm) (k : Kd) → uneven e m k ≡ false → Even-only-unmarked e m k
 unfolding uneven
@@ -80,11 +71,7 @@ even-unmarked e m k h p =
 
 pub not-uneven : (e : Entry) (m : Ksm) (k : Kd) → Even-only-unmarked e m k → uneven e m k ≡ false
 unfolding uneven
-not-uneven e m k h = go (k .p) refl
-  where
-    go : (b : Bool) → k .p ≡ b → uneven e m k ≡ false
-    go false p = rw p
-    go true p = rw (p, h p)
+not-uneven e m k h = by-test (k .p) (λ p. rw (p, h p)) (λ p. rw p)
 
 -- ---- the keys that it brings
 
@@ -98,15 +85,10 @@ key-brought e m k = record {
 
 only-key : (e : Entry) (m : Ksm) (k : Kd) (d : DataKey) → Brings-key e m k d → d ≡ brought-key e m k
 unfolding filled
-only-key e m k d h = go (k .idk1) refl
-  where
-    go : (o : Option Text) → k .idk1 ≡ o → d ≡ brought-key e m k
-    go none p =
-        let i : d .name .bytes ≡ filled (named (k .idk1)) = rw p (h .nameless p) in
-        λ j. record { key = h .key j; name = record { bytes = i j } }
-    go (some n) p =
-        let i : d .name .bytes ≡ filled (named (k .idk1)) = rw p (h .named n p) in
-        λ j. record { key = h .key j; name = record { bytes = i j } }
+only-key e m k d h =
+    let i : d .name .bytes ≡ filled (named (k .idk1)) =
+    by-part (k .idk1) (λ p. rw p (h .nameless p)) (λ n p. rw p (h .named n p)) in
+    λ j. record { key = h .key j; name = record { bytes = i j } }
 
 brought-one : (e : Entry) (m : Ksm) → m .second ≡ none → brought e m ≡ one-key (brought-key e m (m .kd))
 unfolding brought
@@ -118,56 +100,41 @@ unfolding brought
 brought-two e m k p = rw p
 
 pub brought-brings : (e : Entry) (m : Ksm) → Brings e m (brought e m)
-brought-brings e m = go (m .second) refl
-  where
-    go : (o : Option Kd) → m .second ≡ o → Brings e m (brought e m)
-    go none p = subst (Brings e m) (sym (brought-one e m p)) (record {
-      first = key-brought e m (m .kd);
-      one = λ q. (refl, refl);
-      two = λ k q. absurd (let z : _≡_ {A = ℕ} 0 1 = cc in omega arith);
-    })
-    go (some l) p = subst (Brings e m) (sym (brought-two e m l p)) (record {
-      first = key-brought e m (m .kd);
-      one = λ q. absurd (let z : _≡_ {A = ℕ} 0 1 = cc in omega arith);
-      two = λ k q. let i : l ≡ k = cc in (refl, subst (λ (x : Kd). Brings-key e m x (brought-key e m l)) i (key-brought e m l));
-    })
+brought-brings e m = record {
+  first =
+      let k = key-brought e m (m .kd) in
+      by-part (m .second) (λ p. rw (brought-one e m p) k) (λ l p. rw (brought-two e m l p) k);
+  one = λ p. rw (brought-one e m p) (refl, refl);
+  two = λ k p. rw (brought-two e m k p) (refl, key-brought e m k);
+}
 
 -- and no other set is what it brings
 pub brings-only : (e : Entry) (m : Ksm) (set : KeySet) → Brings e m set → set ≡ brought e m
-brings-only e m set h = go (m .second) refl
-  where
-    go : (o : Option Kd) → m .second ≡ o → set ≡ brought e m
-    go none p =
-        let i : set ≡ one-key (brought-key e m (m .kd)) = λ j. record {
-          count = h .one p .0 j;
-          first = only-key e m (m .kd) (set .first) (h .first) j;
-          second = h .one p .1 j;
-        } in
-        i ∙ sym (brought-one e m p)
-    go (some k) p =
-        let i : set ≡ two-keys (brought-key e m (m .kd)) (brought-key e m k) = λ j. record {
-          count = h .two k p .0 j;
-          first = only-key e m (m .kd) (set .first) (h .first) j;
-          second = only-key e m k (set .second) (h .two k p .1) j;
-        } in
-        i ∙ sym (brought-two e m k p)
+brings-only e m set h =
+    let f = only-key e m (m .kd) (set .first) (h .first) in
+    by-part (m .second)
+    (λ p. rw (brought-one e m p) (λ j. record { count = h .one p .0 j; first = f j; second = h .one p .1 j }))
+    (λ k p. rw (brought-two e m k p) (λ j. record {
+      count = h .two k p .0 j;
+      first = f j;
+      second = only-key e m k (set .second) (h .two k p .1) j;
+    }))
 
 -- ---- IV and date
 
 pub iv-is : (set : KeySet) (w : Text) (n : ℕ) → iv-value (keys-in set) w ≡ some n → Iv set w n
-unfolding iv-value
-iv-is set [] n = λ h. absurd (let z : _≡_ {A = ℕ} 0 1 = cc in omega arith)
-iv-is set (c ∷ w) n =
-    by-case (λ (o : Option ℕ). o ≡ some n → Iv set (c ∷ w) n) _ _ _ (λ _ h. absurd (let z : _≡_ {A = ℕ} 0 1 = cc in omega arith)) λ r.
-    by-case (λ (o : Option ℕ). o ≡ some n → Iv set (c ∷ w) n) _ _ _
-    (λ p h. let i : numeral 16 0 w ≡ n = cc in
-    let k = eqb-true c (code "P") p in
-    rw (k, ← i) (plain w (not-false (is-run (code "F") 16 16 w) r))) λ _.
-    by-case (λ (o : Option ℕ). o ≡ some n → Iv set (c ∷ w) n) _ _ _
-    (λ p h. let i : reveal (keys-in set) (numeral 16 0 w) ≡ n = cc in
-    let k = eqb-true c (code "E") p in
-    rw (k, ← i) (enciphered w (not-false (is-run (code "F") 16 16 w) r)))
-    (λ _ h. absurd (let z : _≡_ {A = ℕ} 0 1 = cc in omega arith))
+unfolding iv-value if_then_else_
+iv-is set [] n h = absurd (none-some n h)
+iv-is set (c ∷ w) n h =
+    by-test (is-run (code "F") 16 16 w)
+    (λ r. by-test (eqb c (code "P"))
+    (λ p. let i : some (numeral 16 0 w) ≡ some n = rw (r, p) at h in
+    rw (eqb-true c (code "P") p, ← some-inj i) (plain w r))
+    (λ p. by-test (eqb c (code "E"))
+    (λ q. let i : some (reveal (keys-in set) (numeral 16 0 w)) ≡ some n = rw (r, p, q) at h in
+    rw (eqb-true c (code "E") q, ← some-inj i) (enciphered w r))
+    (λ q. absurd (none-some n (rw (r, p, q) at h)))))
+    (λ r. absurd (none-some n (rw r at h)))
 
 pub is-iv : (set : KeySet) (w : Text) (n : ℕ) → Iv set w n → iv-value (keys-in set) w ≡ some n
 unfolding iv-value if_then_else_
@@ -179,28 +146,21 @@ unfolding bad-format some-has
 ksm-formed set m h =
     let i = or-split (some-has (λ w. not (found (iv-value (keys-in set) w))) (m .iv)) _ h in
     record {
-      iv = λ w p. go w (iv-value (keys-in set) w) refl (rw p at (i .0));
+      iv = λ w p.
+          let j : not (found (iv-value (keys-in set) w)) ≡ false = rw p at (i .0) in
+          by-part (iv-value (keys-in set) w) (λ q. absurd (true≢false (rw q at j))) (λ n q. (n, iv-is set w n q));
       date = λ w p. let j : not (is-date w) ≡ false = rw p at (i .1) in not-false (is-date w) j;
     }
-  where
-    go : (w : Text) (o : Option ℕ) → iv-value (keys-in set) w ≡ o → not (found (iv-value (keys-in set) w)) ≡ false
-        → (n : ℕ) × Iv set w n
-    go w none q j = absurd (true≢false (ap (λ (x : Option ℕ). not (found x)) (sym q) ∙ j))
-    go w (some n) q j = (n, iv-is set w n q)
 
 pub formed-ksm : (set : KeySet) (m : Ksm) → Formed-ksm set m → bad-format set m ≡ false
 unfolding bad-format some-has
-formed-ksm set m h = rw (vector (m .iv) refl, date (m .edk) refl)
+formed-ksm set m h = rw (vector, date)
   where
-    vector : (o : Option Text) → m .iv ≡ o → some-has (λ w. not (found (iv-value (keys-in set) w))) (m .iv) ≡ false
-    vector none p = rw p
-    vector (some w) p =
-        let i = h .iv w p in
-        rw (p, is-iv set w (i .0) (i .1))
+    vector : some-has (λ w. not (found (iv-value (keys-in set) w))) (m .iv) ≡ false
+    vector = by-part (m .iv) (λ p. rw p) (λ w p. let i = h .iv w p in rw (p, is-iv set w (i .0) (i .1)))
 
-    date : (o : Option Text) → m .edk ≡ o → some-has (λ w. not (is-date w)) (m .edk) ≡ false
-    date none p = rw p
-    date (some w) p = rw (p, h .date w p)
+    date : some-has (λ w. not (is-date w)) (m .edk) ≡ false
+    date = by-part (m .edk) (λ p. rw p) (λ w p. rw (p, h .date w p))
 
 -- the IV that is returned
 pub iv-returned : (set : KeySet) (m : Ksm) → Formed-ksm set m → Returns-iv m set (iv-of set m)

@@ -3,51 +3,35 @@ use mathlib.Core.Path.{_≡_, refl, sym, ap, _∙_, subst}
 use mathlib.Core.Bool.{true, false}
 use Prim.Native.Nat.{ℕ, _+_, _≤_, _<_}
 use native.Mathlib.Omega.{arith}
-use Rattle.octets.specs.Text.{Text, within}
+use Rattle.octets.specs.Text.{within}
 use Rattle.keying.proofs.Numbers as keying
-use Rattle.csm.specs.Message.{Ksm, ksm}
-use Rattle.partner.specs.declared.KeySet.{KeySet}
-use Rattle.partner.specs.declared.Entry.{Entry}
 use Rattle.partner.specs.Entry.{limit}
-use Rattle.partner.specs.Changes.{with-receiving, accepted}
-use Rattle.calls.specs.Outcome.{done, keys}
+use Rattle.partner.specs.Changes.{accepted}
+use Rattle.partner.proofs.Claims.{claims}
 use Rattle.calls.specs.Receive as by-class
-use Rattle.calls.specs.Receive.{receive-ksm, brought, rsm-text, iv-of}
 use Rattle.calls.specs.Good.{In-turn}
 use Rattle.calls.specs.Results.{holds, fails}
 use Rattle.calls.specs.Numbers.{Comes-to, Leaves, Is-P, Numbers}
 use Rattle.calls.proofs.Accepting.{ksm-turn}
 use Rattle.calls.proofs.Complaining.{judged-turn}
-use Rattle.calls.proofs.Stepping.{passes, risen-by-one}
-
-by-class-ksm : (own : Text) (e : Entry) (text : Text) (m : Ksm)
-    → by-class.receive own e text (ksm m) ≡ receive-ksm own e text m
-unfolding by-class.receive
-by-class-ksm own e text m = refl
-
-expects-one-more : (e : Entry) (n : ℕ) (set : KeySet) → n < limit → accepted n set .expected ≡ n + 1
-unfolding accepted
-expects-one-more e n set l = risen-by-one n l
+use Rattle.calls.proofs.Stepping.{passes}
 
 leaves-one-more : (expected count : ℕ) → expected ≤ count → count < limit → Comes-to expected count (Leaves (count + 1))
+unfolding by-class.receive accepted
 leaves-one-more expected count x y own e text m p q g =
     let t : In-turn (e .receiving .expected) (m .ctp) = record { fresh = omega (arith, x, p, q); not-last = omega (arith, y, q) } in
-    subst (Leaves (count + 1))
-    (sym (ksm-turn own e text m (passes e text m (record { rest = g; count = t }))) ∙ by-class-ksm own e text m)
-    (result e (m .ctp) (brought e m) (t .not-last) q)
-  where
-    result : (e : Entry) (n : ℕ) (set : KeySet) → n < limit → n ≡ count
-        → Leaves (count + 1) (done (with-receiving e (accepted n set)) (rsm-text own e set) (keys (iv-of set m) (m .edk)))
-    result e n set l q = record { accepted = refl; expects = expects-one-more e n set l ∙ ap (λ (k : ℕ). k + 1) q }
+    subst (Leaves (count + 1)) (sym (ksm-turn own e text m (passes e text m (record { rest = g; count = t }))))
+    (record { accepted = refl; expects = claims .rises-by-one (m .ctp) (t .not-last) ∙ ap (λ (k : ℕ). k + 1) q })
 
 out-of-turn : (expected count : ℕ) → within 1 limit count ≡ true → (In-turn expected count → ⊥)
     → Comes-to expected count (Is-P expected)
+unfolding by-class.receive
 out-of-turn expected count l n own e text m p q g =
     let c : In-turn (e .receiving .expected) (m .ctp) → ⊥ = λ i. n (subst (λ (k : ℕ). In-turn expected k) q
     (subst (λ (k : ℕ). In-turn k (m .ctp)) p i)) in
     subst (Is-P expected)
     (sym (judged-turn own e text m (g .set) true true false (ap (within 1 limit) q ∙ l) (g .names) (g .parity)
-    (g .brings) (holds (g .format)) (holds (g .sealed)) (fails c) refl) ∙ by-class-ksm own e text m)
+    (g .brings) (holds (g .format)) (holds (g .sealed)) (fails c) refl))
     (record { answered = refl; spelled = refl; expects = p })
 
 pub numbers : Numbers

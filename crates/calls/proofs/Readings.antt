@@ -1,6 +1,6 @@
 -- What is known of a KSM and an ESM that were read, and that the messages which a card writes are read back.
-use mathlib.Core.Path.{_≡_, refl, _∙_}
-use mathlib.Core.Bool.{Bool, true, false, _&&_, _||_}
+use mathlib.Core.Path.{_≡_}
+use mathlib.Core.Bool.{true, false, _&&_}
 use mathlib.Core.List.{_∷_}
 use mathlib.Core.Option.{none, some}
 use Prim.Native.Nat.{ℕ, _/_, _%_, _^_, _<_}
@@ -19,6 +19,7 @@ use Rattle.csm.proofs.LengthLaws.{known, known-legal}
 use Rattle.partner.specs.Entry.{limit}
 use Rattle.calls.specs.Receive.{esm-body, rsm-body}
 use Rattle.calls.specs.Claims.{Carries}
+use Rattle.calls.proofs.Tests.{by-test}
 
 -- ---- what is written is read back
 
@@ -43,12 +44,10 @@ pub counted-legal : (n x y : ℕ) → within 1 511 n ≡ true → has-P n ≡ tr
 counted-legal n x y h p a b = rw (a, b, h, p)
 
 -- a plain or enciphered IV
-hex-run-more : (x : ℕ) → run-char 70 x ≡ true → run-char 90 x ≡ true
-hex-run-more x h = go (within 48 57 x) (within 65 70 x) refl h
-  where
-    go : (a b : Bool) → within 65 70 x ≡ b → a || b ≡ true → a || within 65 90 x ≡ true
-    go true b q h = refl
-    go false b q h = let i = within-true 65 70 x (q ∙ h) in true-within 65 90 x (i .0) (omega arith)
+pub hex-run-more : (x : ℕ) → run-char 70 x ≡ true → run-char 90 x ≡ true
+hex-run-more x h =
+    by-test (within 48 57 x) (λ p. rw p)
+    (λ p. let i = within-true 65 70 x (rw p at h) in rw (p, true-within 65 90 x (i .0) (omega arith)))
 
 pub iv-legal : (c n : ℕ) → run-char 90 c ≡ true → iv .legal (c ∷ hex-text 16 n) ≡ true
 iv-legal c n h =

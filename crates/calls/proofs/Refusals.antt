@@ -1,164 +1,107 @@
 -- The claims of specs/Refusals.antt, proved: each call is walked in its order.
 use mathlib.Core.Path.{_≡_, refl, sym, ap, _∙_, subst}
-use mathlib.Core.Bool.{Bool, true, false, cond, not}
+use mathlib.Core.Bool.{Bool, true, false, not}
 use mathlib.Core.List.{List, _∷_, _++_, List·Memᴰ, List·Memᴰ·head, List·Memᴰ·tail, List·Memᴰ·cases-cons, List·Memᴰ·not-nil, []}
-use mathlib.Core.Logic.{_⊎_, inl, inr}
+use mathlib.Core.Logic.{_⊎_, inl, inr, ⊎-elim}
 use mathlib.Core.Option.{none, some}
-use Prim.Native.Nat.{ℕ, zero, suc, _≤_, _<_}
-use native.Mathlib.Omega.{arith}
-use lib.Dec.{ltb}
+use Prim.Native.Nat.{ℕ, zero, suc, _≤_}
 use borrow.Author.Tests.{le-ltb, lt-ltb, not-false, not-true}
 use Rattle.octets.specs.Text.{Text, same, is-name}
 use Rattle.octets.specs.Part.{bare}
-use Rattle.octets.proofs.Comparing.{both as and-true, same-equal as same-true, same-self as same-refl}
+use Rattle.octets.proofs.Comparing.{both as and-true, differs-same, same-differs, same-self as same-refl}
+use Rattle.octets.specs.First.{Order, first}
+use Rattle.octets.proofs.Firsts.{stays}
 use Rattle.keying.specs.declared.Top.{Top}
 use Rattle.keying.specs.declared.Top.the-variants.{Single, Pair}
 use Rattle.keying.specs.Keys.{odd-top}
-use Rattle.csm.specs.Format.{value}
-use Rattle.csm.specs.Fields.{svr}
+use Rattle.csm.proofs.TextLaws.{none-some}
 use Rattle.csm.specs.Message.{Reading, read}
 use Rattle.partner.specs.declared.Entry.{Entry}
 use Rattle.partner.specs.Entry.{filled, name-of, top-of, empty}
 use Rattle.partner.specs.Changes.{loaded}
 use Rattle.partner.proofs.Claims.{claims}
+use Rattle.partner.proofs.Ruling.{not-0}
 use Rattle.partner.specs.Table.{Table, legal, is-empty, identities, differs, find, put, into-free-slot, behind, holding, empties}
 use Rattle.calls.specs.Words.{if_then_else_}
-use Rattle.calls.specs.Outcome.{Turn, success, nothing, refused}
-use Rattle.calls.specs.Receive as by-class
-use Rattle.calls.specs.Build as building
-use Rattle.calls.specs.Calls.{Call, receive, about, build-ksm, build-rsi, give-up, load, remove, ask, After, refuse, start}
-use Rattle.calls.specs.Calls.{entry-of, after-turn, at-partner, receiving, bad-identity, loading, after-load, emptied, unturned}
+use Rattle.calls.specs.Outcome.{success, nothing, refusal}
+use Rattle.calls.specs.Calls.{Call, receive, about, build-ksm, build-rsi, give-up, load, remove, ask, refuse, start}
+use Rattle.calls.specs.Calls.{entry-of, at-partner, bad-identity, loading, after-load}
 use Rattle.calls.specs.Calls.{perform, run}
 use Rattle.calls.specs.Good.{Good-identity}
+use Rattle.calls.specs.Orders.{by-class, at-entry, in-order, order}
 use Rattle.calls.specs.Refusals.{In-use, Empty, Loads, Refusals}
-use Rattle.calls.proofs.Tests.{if-true, if-false, never}
+use Rattle.calls.proofs.Tests.{if-true, if-false, by-test, not-failing}
+use Rattle.calls.proofs.Turns.{refusing, refusing-not-0, refusing-not-4}
+use Rattle.calls.proofs.Claims as call
+use Rattle.calls.proofs.Orders.{orders}
 use Rattle.calls.proofs.Slots.{empty-is, put-found}
 use Rattle.calls.proofs.Identities.{find-none}
 use Rattle.calls.proofs.Tables.{entry-held, emptied-after}
 
--- ---- 13 and 6
+-- ---- a call is refused by its order
 
-illegal : (t : Table) (c : Call) → legal t ≡ false → run t c ≡ refuse t 13
-unfolding run
-illegal t c h = if-false (legal t) _ _ h
+pub is-refused : (t : Table) (c : Call) (n : ℕ) → refusing n ≡ true → first (order t c) ≡ n → run t c ≡ refuse t n
+is-refused t c n k p =
+    let i = orders .answer-is-the-first t c ∙ p in
+    let z : run t c .outcome .answer ≡ 0 → ⊥ = λ q. refusing-not-0 n k (sym i ∙ q) in
+    λ j. record {
+      outcome = (call.claims .refusals-are-bare t c z (λ q. refusing-not-4 n k (sym i ∙ q)) ∙ ap refusal i) j;
+      table = call.claims .unless-done-nothing-changes t c z j;
+    }
 
-lawful : (t : Table) (c : Call) → legal t ≡ true → run t c ≡ perform t c
-unfolding run
-lawful t c h = if-true (legal t) _ _ h
+-- 6, and what follows it does not matter
+cramped : (t : Table) (c : Call) (b : Bool) (rest : Order) → in-order t c ≡ (b, 6) ∷ rest → legal t ≡ true → b ≡ true
+    → run t c ≡ refuse t 6
+cramped t c b rest p l h = is-refused t c 6 refl (rw (l, p, h) (stays 6 rest (not-0 6 refl)))
 
--- where there is no room
-cramped : (t : Table) (room : ℕ) (a : After) → room < 256 → (if ltb room 256 then refuse t 6 else a) ≡ refuse t 6
-cramped t room a h = if-true (ltb room 256) _ _ (lt-ltb room 256 h)
+module _ (t : Table) (room : ℕ) (text : Text) (l : legal t ≡ true) (e : 256 ≤ room) (r : Reading)
+    (h : read text ≡ some r) where
+  not-for-us : (r .rcv ≡ bare (t .own) → ⊥) → run t (receive room text) ≡ refuse t 2
+  not-for-us n =
+      is-refused t (receive room text) 2 refl
+      (rw (l, le-ltb room 256 e, h, differs-same (r .rcv) (bare (t .own)) n)
+      (stays 2 (at-entry (entry-of (r .org) t) (λ e. by-class e text (r .body))) (not-0 2 refl)))
 
-roomy : (t : Table) (room : ℕ) (a : After) → 256 ≤ room → (if ltb room 256 then refuse t 6 else a) ≡ a
-roomy t room a h = if-false (ltb room 256) _ _ (le-ltb room 256 h)
-
--- an act without a reply asks for none
-unasked : (t : Table) (a : After) → (if false then refuse t 6 else a) ≡ a
-unasked t a = if-false false _ _ refl
-
--- ---- 1, 2, 3
-
-nobody : (t : Table) (id : Text) (f : Entry → Turn) → entry-of id t ≡ none → at-partner t id f ≡ refuse t 3
-unfolding at-partner
-nobody t id f h = ap (after-turn t id f) h
-
-module _ (t : Table) (room : ℕ) (text : Text) (l : legal t ≡ true) (e : 256 ≤ room) where
-  receive-way : run t (receive room text) ≡ receiving t text (read text)
-  unfolding perform
-  receive-way = lawful t (receive room text) l ∙ roomy t room (receiving t text (read text)) e
-
-  no-message : read text ≡ none → run t (receive room text) ≡ refuse t 1
-  unfolding receiving
-  no-message h = receive-way ∙ ap (receiving t text) h
-
-  module _ (r : Reading) (h : read text ≡ some r) where
-    not-for-us : (r .rcv ≡ bare (t .own) → ⊥) → run t (receive room text) ≡ refuse t 2
-    unfolding receiving
-    not-for-us n =
-        receive-way ∙ ap (receiving t text) h
-        ∙ if-true (not (same (r .rcv) (bare (t .own)))) _ _ (go (same (r .rcv) (bare (t .own))) refl)
-      where
-        go : (b : Bool) → same (r .rcv) (bare (t .own)) ≡ b → not b ≡ true
-        go true p = absurd (n (same-true (r .rcv) (bare (t .own)) p))
-        go false p = refl
-
-    no-sender : r .rcv ≡ bare (t .own) → entry-of (r .org) t ≡ none → run t (receive room text) ≡ refuse t 3
-    unfolding receiving
-    no-sender p n =
-        let s : same (r .rcv) (bare (t .own)) ≡ true =
-        subst (λ (w : Text). same w (bare (t .own)) ≡ true) (sym p) (same-refl (bare (t .own))) in
-        receive-way ∙ ap (receiving t text) h
-        ∙ if-false (not (same (r .rcv) (bare (t .own)))) _ _ (ap not s)
-        ∙ nobody t (r .org) (λ e. by-class.receive (bare (t .own)) e text (r .body)) n
+  no-sender : r .rcv ≡ bare (t .own) → entry-of (r .org) t ≡ none → run t (receive room text) ≡ refuse t 3
+  no-sender p n =
+      let s = ap (λ (w : Text). same w (bare (t .own))) p ∙ same-refl (bare (t .own)) in
+      is-refused t (receive room text) 3 refl (rw (l, le-ltb room 256 e, h, s, n))
 
 -- ---- build an RSI, remove, ask
 
-no-service : (us : Text) (e : Entry) (contents : Text) → value svr contents ≡ none
-    → building.build-rsi us e contents ≡ refused e 12
-unfolding building.build-rsi
-no-service us e contents h = rw (h, building.build-rsi)
-
 -- a turn that leaves the entry leaves the table
-same-table : (t : Table) (id : Text) (e : Entry) → entry-of id t ≡ some e → holding t (put (filled id) e (t .slots)) ≡ t
+pub same-table : (t : Table) (id : Text) (e : Entry) → entry-of id t ≡ some e
+    → holding t (put (filled id) e (t .slots)) ≡ t
 same-table t id e k = λ j. record {
   own = t .own;
   slots = put-found (filled id) (t .slots) e (entry-held t id e k .found) j;
 }
 
-service-refused : (t : Table) (room : ℕ) (id contents : Text) (e : Entry) → legal t ≡ true → 256 ≤ room
-    → entry-of id t ≡ some e → value svr contents ≡ none → run t (about id (build-rsi room contents)) ≡ refuse t 12
-unfolding perform at-partner
-service-refused t room id contents e l r k h =
-    lawful t (about id (build-rsi room contents)) l ∙ roomy t room _ r
-    ∙ ap (after-turn t id (λ e. building.build-rsi (bare (t .own)) e contents)) k
-    ∙ (λ j. record {
-      outcome = no-service (bare (t .own)) e contents h j .outcome;
-      table = holding t (put (filled id) (no-service (bare (t .own)) e contents h j .entry) (t .slots));
-    })
-    ∙ (λ j. record { outcome = refused e 12 .outcome; table = same-table t id e k j })
-
 gone : (t : Table) (id : Text) (e : Entry) → legal t ≡ true → entry-of id t ≡ some e
     → (run t (about id remove) .outcome ≡ success [] nothing) × (entry-of id (run t (about id remove) .table) ≡ none)
-unfolding perform at-partner
-gone t id e l k =
-    let p = lawful t (about id remove) l ∙ unasked t _ ∙ ap (after-turn t id emptied) k in
-    (ap (λ (a : After). a .outcome) p, ap (λ (a : After). entry-of id (a .table)) p ∙ emptied-after t id e l (entry-held t id e k))
+unfolding run perform at-partner if_then_else_
+gone t id e l k = rw (l, k) (refl, emptied-after t id e l (entry-held t id e k))
 
 is-found : (t : Table) (id : Text) (e : Entry) → legal t ≡ true → entry-of id t ≡ some e
     → run t (about id ask) ≡ record { outcome = success [] nothing; table = t }
-unfolding perform at-partner
+unfolding run perform at-partner if_then_else_
 is-found t id e l k =
-    lawful t (about id ask) l ∙ unasked t _ ∙ ap (after-turn t id unturned) k
-    ∙ (λ j. record { outcome = success [] nothing; table = same-table t id e k j })
+    rw (l, k) (ap (λ (u : Table). record { outcome = success [] nothing; table = u }) (same-table t id e k))
 
 -- ---- load
 
 -- an identity is not found exactly where all differ from it
 found-differs : (id : Text) (l : List Entry) → find id l ≡ none → differs id (identities l) ≡ true
 found-differs id [] h = refl
-found-differs id (e ∷ l) h = go (same (e .identity .bytes) id) refl h (found-differs id l)
-  where
-    rest : (b : Bool) → is-empty e ≡ b → same (e .identity .bytes) id ≡ false → differs id (identities l) ≡ true
-        → differs id (identities (e ∷ l)) ≡ true
-    rest true q s d = rw q d
-    rest false q s d = rw (q, s) d
-
-    go : (b : Bool) → same (e .identity .bytes) id ≡ b → cond b (some e) (find id l) ≡ none
-        → (find id l ≡ none → differs id (identities l) ≡ true) → differs id (identities (e ∷ l)) ≡ true
-    go true s h ih = absurd (let z : _≡_ {A = ℕ} 0 1 = cc in omega arith)
-    go false s h ih = rest (is-empty e) refl s (ih h)
+found-differs id (e ∷ l) h =
+    by-test (same (e .identity .bytes) id)
+    (λ s. let i : some e ≡ none = rw s at h in absurd (none-some e (sym i)))
+    (λ s. let d = found-differs id l (rw s at h) in by-test (is-empty e) (λ q. rw q d) (λ q. rw (q, s) d))
 
 good-identity : (t : Table) (id : Text) → Good-identity t id → bad-identity t id ≡ false
 good-identity t id g =
-    rw (g .formed, not-same (t .own) (filled id) (λ p. g .not-ours (sym p)), found-differs (filled id) (t .slots) (sym (if-true (is-name id) _ _ (g .formed)) ∙ g .not-taken))
-  where
-    not-same : (v w : Text) → (v ≡ w → ⊥) → same v w ≡ false
-    not-same v w n = go (same v w) refl
-      where
-        go : (b : Bool) → same v w ≡ b → b ≡ false
-        go true p = absurd (n (same-true v w p))
-        go false p = refl
+    let n = sym (if-true (is-name id) _ _ (g .formed)) ∙ g .not-taken in
+    rw (g .formed, differs-same (t .own) (filled id) (λ p. g .not-ours (sym p)), found-differs (filled id) (t .slots) n)
 
 identity-good : (t : Table) (id : Text) → bad-identity t id ≡ false → Good-identity t id
 identity-good t id h =
@@ -166,8 +109,7 @@ identity-good t id h =
     let b = and-true (not (same (t .own) (filled id))) (differs (filled id) (identities (t .slots))) (a .1) in
     record {
       formed = a .0;
-      not-ours = λ p. never (same (t .own) (filled id))
-          (subst (λ (w : Text). same w (filled id) ≡ true) p (same-refl (filled id))) (not-true _ (b .0));
+      not-ours = λ p. same-differs (t .own) (filled id) (not-true _ (b .0)) (sym p);
       not-taken =
           if-true (is-name id) _ _ (a .0)
           ∙ find-none (filled id) (claims .filled-is-filled id (a .0)) (t .slots) (b .1);
@@ -187,6 +129,10 @@ record Lowest (x : Entry) (l : List Entry) : Type 0 where
   is-free : is-empty free ≡ true
   placed : into-free-slot x l ≡ some (before ++ (x ∷ after))
 
+used-more : (e : Entry) (l : List Entry) → is-empty e ≡ false → In-use l → In-use (e ∷ l)
+used-more e l p h f i =
+    ⊎-elim (λ (q : f ≡ e). rw q p) (λ (j : List·Memᴰ f l). h f j) (List·Memᴰ·cases-cons i)
+
 lowest : (x : Entry) (l : List Entry) → In-use l ⊎ Lowest x l
 lowest x [] = inl (λ e i. absurd (List·Memᴰ·not-nil i))
 lowest x (e ∷ l) = go (is-empty e) refl (lowest x l)
@@ -201,61 +147,39 @@ lowest x (e ∷ l) = go (is-empty e) refl (lowest x l)
       is-free = p;
       placed = rw p;
     })
-    go false p (inl h) = inl (λ f i. all f (List·Memᴰ·cases-cons i))
-      where
-        all : (f : Entry) → (f ≡ e) ⊎ List·Memᴰ f l → is-empty f ≡ false
-        all f (inl q) = rw q p
-        all f (inr i) = h f i
+    go false p (inl h) = inl (used-more e l p h)
     go false p (inr w) = inr (record {
       before = e ∷ w .before;
       free = w .free;
       after = w .after;
       slots = ap (λ (k : List Entry). e ∷ k) (w .slots);
-      in-use = λ f i. all f (List·Memᴰ·cases-cons i);
+      in-use = used-more e (w .before) p (w .in-use);
       is-free = w .is-free;
       placed = rw (p, w .placed);
     })
-      where
-        all : (f : Entry) → (f ≡ e) ⊎ List·Memᴰ f (w .before) → is-empty f ≡ false
-        all f (inl q) = rw q p
-        all f (inr i) = w .in-use f i
 
 module _ (t : Table) (id name : Text) (top : Top) (l : legal t ≡ true) where
-  load-way : run t (load id name top) ≡ loading t id name top
-  unfolding perform
-  load-way = lawful t (load id name top) l
-
   is-10 : (Good-identity t id → ⊥) → run t (load id name top) ≡ refuse t 10
-  unfolding loading
-  is-10 n = load-way ∙ if-true (bad-identity t id) _ _ (go (bad-identity t id) refl)
-    where
-      go : (b : Bool) → bad-identity t id ≡ b → b ≡ true
-      go true p = refl
-      go false p = absurd (n (identity-good t id p))
+  is-10 n =
+      is-refused t (load id name top) 10 refl (rw (l, not-failing (bad-identity t id) (λ p. n (identity-good t id p))))
 
   module _ (g : Good-identity t id) where
     is-12 : is-name name ≡ false → run t (load id name top) ≡ refuse t 12
-    unfolding loading
-    is-12 n =
-        load-way ∙ if-false (bad-identity t id) _ _ (good-identity t id g)
-        ∙ if-true (not (is-name name)) _ _ (ap not n)
+    is-12 n = is-refused t (load id name top) 12 refl (rw (l, good-identity t id g, n))
 
     module _ (n : is-name name ≡ true) where
       is-11 : odd-top top ≡ false → run t (load id name top) ≡ refuse t 11
-      unfolding loading
-      is-11 o =
-          load-way ∙ if-false (bad-identity t id) _ _ (good-identity t id g)
-          ∙ if-false (not (is-name name)) _ _ (ap not n) ∙ if-true (not (odd-top top)) _ _ (ap not o)
+      is-11 o = is-refused t (load id name top) 11 refl (rw (l, good-identity t id g, n, o))
 
       module _ (o : odd-top top ≡ true) where
-        place-way : run t (load id name top) ≡ after-load t (into-free-slot (loaded (name-of id) (name-of name) top) (t .slots))
-        unfolding loading
-        place-way =
-            load-way ∙ if-false (bad-identity t id) _ _ (good-identity t id g)
-            ∙ if-false (not (is-name name)) _ _ (ap not n) ∙ if-false (not (odd-top top)) _ _ (ap not o)
-
         is-9 : In-use (t .slots) → run t (load id name top) ≡ refuse t 9
-        is-9 f = place-way ∙ ap (after-load t) (none-free (loaded (name-of id) (name-of name) top) (t .slots) f)
+        is-9 f =
+            is-refused t (load id name top) 9 refl
+            (rw (l, good-identity t id g, n, o, none-free (loaded (name-of id) (name-of name) top) (t .slots) f))
+
+        place-way : run t (load id name top) ≡ after-load t (into-free-slot (loaded (name-of id) (name-of name) top) (t .slots))
+        unfolding run perform loading if_then_else_
+        place-way = rw (l, good-identity t id g, n, o)
 
         top-back : (k : Top) → top-of (loaded (name-of id) (name-of name) k .top) ≡ k
         unfolding loaded top-of
@@ -266,9 +190,6 @@ module _ (t : Table) (id name : Text) (top : Top) (l : legal t ≡ true) where
         unfolding loaded
         is-0 f = go (lowest (loaded (name-of id) (name-of name) top) (t .slots))
           where
-            x : Entry
-            x = loaded (name-of id) (name-of name) top
-
             go : In-use (t .slots) ⊎ Lowest (loaded (name-of id) (name-of name) top) (t .slots) → Loads id name top t (run t (load id name top))
             go (inl h) = absurd (f h)
             go (inr w) = subst (Loads id name top t) (sym (place-way ∙ ap (after-load t) (w .placed))) (record {
@@ -296,29 +217,30 @@ module _ (t : Table) (id name : Text) (top : Top) (l : legal t ≡ true) where
 empties-empty : (n : ℕ) → Empty (empties n)
 unfolding empties
 empties-empty zero e i = absurd (List·Memᴰ·not-nil i)
-empties-empty (suc n) e i = go (List·Memᴰ·cases-cons i) (empties-empty n e)
-  where
-    go : (e ≡ empty) ⊎ List·Memᴰ e (empties n) → (List·Memᴰ e (empties n) → is-empty e ≡ true) → is-empty e ≡ true
-    go (inl q) ih = rw q empty-is
-    go (inr j) ih = ih j
+empties-empty (suc n) e i =
+    ⊎-elim (λ (q : e ≡ empty). rw q empty-is) (λ (j : List·Memᴰ e (empties n)). empties-empty n e j)
+    (List·Memᴰ·cases-cons i)
 
 pub refusals : Refusals
 unfolding perform start empties
 refusals = record {
-  illegal-is-13 = illegal;
-  no-room-to-receive = λ t room text l h. lawful t (receive room text) l ∙ cramped t room _ h;
-  no-room-to-build = λ t room id q l h. lawful t (about id (build-ksm room q)) l ∙ cramped t room _ h;
-  no-room-to-ask-for-service = λ t room id contents l h. lawful t (about id (build-rsi room contents)) l ∙ cramped t room _ h;
-  no-message-is-1 = no-message;
+  illegal-is-13 = λ t c h. is-refused t c 13 refl (rw h (stays 13 (in-order t c) (not-0 13 refl)));
+  no-room-to-receive = λ t room text l h. cramped t (receive room text) _ _ refl l (lt-ltb room 256 h);
+  no-room-to-build = λ t room id q l h. cramped t (about id (build-ksm room q)) _ _ refl l (lt-ltb room 256 h);
+  no-room-to-ask-for-service = λ t room id contents l h.
+      cramped t (about id (build-rsi room contents)) _ _ refl l (lt-ltb room 256 h);
+  no-message-is-1 = λ t room text l r h. is-refused t (receive room text) 1 refl (rw (l, le-ltb room 256 r, h));
   not-for-us-is-2 = λ t room text r l e. not-for-us t room text l e r;
   no-sender-is-3 = λ t room text r l e. no-sender t room text l e r;
-  nobody-to-build-for = λ t room id q l r n. lawful t (about id (build-ksm room q)) l ∙ roomy t room _ r ∙ nobody t id _ n;
+  nobody-to-build-for = λ t room id q l r n.
+      is-refused t (about id (build-ksm room q)) 3 refl (rw (l, le-ltb room 256 r, n));
   nobody-to-ask-for-service = λ t room id contents l r n.
-      lawful t (about id (build-rsi room contents)) l ∙ roomy t room _ r ∙ nobody t id _ n;
-  nobody-to-give-up = λ t id l n. lawful t (about id give-up) l ∙ unasked t _ ∙ nobody t id _ n;
-  nobody-to-remove = λ t id l n. lawful t (about id remove) l ∙ unasked t _ ∙ nobody t id _ n;
-  nobody-to-show = λ t id l n. lawful t (about id ask) l ∙ unasked t _ ∙ nobody t id _ n;
-  no-service-is-12 = service-refused;
+      is-refused t (about id (build-rsi room contents)) 3 refl (rw (l, le-ltb room 256 r, n));
+  nobody-to-give-up = λ t id l n. is-refused t (about id give-up) 3 refl (rw (l, n));
+  nobody-to-remove = λ t id l n. is-refused t (about id remove) 3 refl (rw (l, n));
+  nobody-to-show = λ t id l n. is-refused t (about id ask) 3 refl (rw (l, n));
+  no-service-is-12 = λ t room id contents e l r k h.
+      is-refused t (about id (build-rsi room contents)) 12 refl (rw (l, le-ltb room 256 r, k, h));
   removed-is-gone = gone;
   asked-is-found = is-found;
   bad-identity-is-10 = is-10;

@@ -1,23 +1,24 @@
 -- A request that is not malformed: the message built of it is legal, and its keys make a good set.
 use mathlib.Core.Path.{_≡_, refl}
-use mathlib.Core.Bool.{Bool, true, false, cond, not, _&&_, _||_, true≢false}
-use mathlib.Core.List.{[], _∷_}
+use mathlib.Core.Bool.{Bool, true, false, not, _&&_, _||_, true≢false}
+use mathlib.Core.List.{[]}
 use mathlib.Core.Option.{Option, none, some}
 use Prim.Native.Nat.{ℕ, _<_, _^_}
 use Prim.Native.Char.{code}
 use lib.Dec.{eqb, ltb}
 use borrow.Author.Tests.{eqb-true, not-false}
-use Rattle.octets.specs.Text.{Text, is-run}
+use Rattle.octets.specs.Text.{Text, same, is-run}
 use Rattle.octets.specs.Part.{bare}
-use Rattle.octets.proofs.Comparing.{both as and-true}
+use Rattle.octets.proofs.Comparing.{both as and-true, same-self as same-refl}
 use Rattle.keying.specs.Iv.{conceal}
 use Rattle.keying.specs.Date.{is-date, is-day, is-time, two as pair-of}
 use Rattle.keying.proofs.Laws.{seal-lt}
 use Rattle.csm.specs.Format.{maybe-legal}
-use Rattle.csm.specs.Fields.{KD, IV, EDK, field, kd, legal-name}
+use Rattle.csm.specs.Fields.{KD, IV, EDK, field, kd, named, legal-name}
+use Rattle.csm.proofs.TextLaws.{or-right}
 use Rattle.csm.specs.Message.{legal-body}
 use Rattle.partner.specs.declared.Entry.{Entry}
-use Rattle.partner.specs.Entry.{name-of, keys-in}
+use Rattle.partner.specs.Entry.{blanks, filled, name-of, keys-in}
 use Rattle.partner.specs.Legal.{is-filled, is-named, keys-formed, legal}
 use Rattle.partner.proofs.Naming.{filled-name}
 use Rattle.partner.proofs.Keeping.{rules}
@@ -27,8 +28,7 @@ use Rattle.calls.specs.declared.Request.{Request}
 use Rattle.calls.specs.Words.{if_then_else_}
 use Rattle.calls.specs.Build.{used, bad-key, bad-keys, malformed, wants-idk1, wants-idk2}
 use Rattle.calls.specs.Build.{outgoing-key, outgoing-of, asked, kd-for, iv-for, ksm-body}
-use Rattle.calls.proofs.Tests.{or-split, by-case}
-use Rattle.calls.proofs.Names.{named-is-named}
+use Rattle.calls.proofs.Tests.{or-split, by-case, by-test}
 use Rattle.calls.proofs.Readings.{mac-legal, iv-legal, kd-legal}
 
 -- ---- one key or two
@@ -40,15 +40,14 @@ pub data Keyed (q : Request) : Type 0 where
 
 pub keyed : (q : Request) → bad-keys (used q) ≡ false → Keyed q
 unfolding used bad-keys if_then_else_
-keyed q h = go (eqb (q .count) 1) refl (eqb (q .count) 2) refl h
-  where
-    go : (a : Bool) → eqb (q .count) 1 ≡ a → (b : Bool) → eqb (q .count) 2 ≡ b
-        → bad-keys (if a then q .first ∷ [] else if b then q .first ∷ q .second ∷ [] else []) ≡ false → Keyed q
-    go true p b r h = one p h
-    go false p true r h =
-        let i = or-split (eqb (q .first .key) (q .second .key) || bad-key (q .first)) (bad-key (q .second)) h in
-        two p r (or-split (eqb (q .first .key) (q .second .key)) (bad-key (q .first)) (i .0) .1) (i .1)
-    go false p false r h = absurd (true≢false h)
+keyed q h =
+    by-test (eqb (q .count) 1) (λ p. one p (rw p at h)) λ p.
+    by-test (eqb (q .count) 2)
+    (λ r.
+    let e = eqb (q .first .key) (q .second .key) in
+    let i = or-split (e || bad-key (q .first)) (bad-key (q .second)) (rw (p, r) at h) in
+    two p r (or-split e (bad-key (q .first)) (i .0) .1) (i .1))
+    (λ r. absurd (true≢false (rw (p, r) at h)))
 
 pub not-two : (q : Request) → eqb (q .count) 1 ≡ true → eqb (q .count) 2 ≡ false
 not-two q h = rw (eqb-true (q .count) 1 h)
@@ -57,26 +56,43 @@ pub record Formed (q : Request) : Type 0 where
   pub keys : Keyed q
   pub date : eqb (q .dated) 1 && not (is-date (q .date .digits)) ≡ false
 
-pub formed : (q : Request) → malformed q ≡ false → Formed q
+-- what is tested of a request, one by one
+pub record Tested (q : Request) : Type 0 where
+  pub keys : bad-keys (used q) ≡ false
+  pub kind : not (ltb (q .kind) 3) ≡ false
+  pub dated : not (ltb (q .dated) 2) ≡ false
+  pub date : eqb (q .dated) 1 && not (is-date (q .date .digits)) ≡ false
+
+pub tested : (q : Request) → malformed q ≡ false → Tested q
 unfolding malformed
-formed q h =
+tested q h =
     let a = or-split _ (eqb (q .dated) 1 && not (is-date (q .date .digits))) h in
     let b = or-split _ (not (ltb (q .dated) 2)) (a .0) in
     let c = or-split (bad-keys (used q)) (not (ltb (q .kind) 3)) (b .0) in
-    record { keys = keyed q (c .0); date = a .1 }
+    record { keys = c .0; kind = c .1; dated = b .1; date = a .1 }
 
--- ---- names
+pub formed : (q : Request) → malformed q ≡ false → Formed q
+formed q h = let t = tested q h in record { keys = keyed q (t .keys); date = t .date }
+
+-- ---- names: that of a data key which a message brings or a request gives is a name or none
+
+-- no name is 16 blanks
+blanks-are-none : filled [] ≡ blanks
+unfolding filled
+blanks-are-none = refl
+
+pub named-is-named : (key : ℕ) (o : Option Text) → legal-name o ≡ true
+    → is-named (record { key = key; name = name-of (named o) }) ≡ true
+unfolding is-named
+named-is-named key none h = rw (blanks-are-none, same-refl blanks)
+named-is-named key (some w) h = or-right (same (filled w) blanks) (is-filled (filled w)) (claims .filled-is-filled w h)
 
 -- the IDK1 that is written
 pub idk1-legal : (k : KeyRequest) → bad-key k ≡ false → legal-name (asked (wants-idk1 k) (bare (k .name .bytes))) ≡ true
 unfolding bad-key
 idk1-legal k h =
-    go (wants-idk1 k) (or-split (not (ltb (k .flags) 8)) (wants-idk1 k && not (is-filled (k .name .bytes))) h .1)
-  where
-    go : (b : Bool) → b && not (is-filled (k .name .bytes)) ≡ false
-        → legal-name (asked b (bare (k .name .bytes))) ≡ true
-    go true r = filled-name (k .name .bytes) (not-false (is-filled (k .name .bytes)) r)
-    go false r = refl
+    let r = or-split (not (ltb (k .flags) 8)) (wants-idk1 k && not (is-filled (k .name .bytes))) h .1 in
+    by-test (wants-idk1 k) (λ p. rw p (filled-name (k .name .bytes) (not-false _ (rw p at r)))) (λ p. rw p)
 
 idk2-legal : (e : Entry) (b : Bool) → legal e ≡ true → legal-name (asked b (bare (e .top .name .bytes))) ≡ true
 idk2-legal e true h = filled-name (e .top .name .bytes) (rules e h .name-filled)
@@ -84,12 +100,10 @@ idk2-legal e false h = refl
 
 -- the name that an outgoing key is given
 outgoing-named : (k : KeyRequest) → bad-key k ≡ false → is-named (outgoing-key k) ≡ true
-outgoing-named k h = go (wants-idk1 k) (idk1-legal k h)
-  where
-    go : (b : Bool) → legal-name (asked b (bare (k .name .bytes))) ≡ true
-        → is-named (record { key = k .key; name = name-of (cond b (bare (k .name .bytes)) []) }) ≡ true
-    go true r = named-is-named (k .key) (some (bare (k .name .bytes))) r
-    go false r = named-is-named (k .key) none refl
+outgoing-named k h =
+    by-test (wants-idk1 k)
+    (λ p. rw p (named-is-named (k .key) (some (bare (k .name .bytes))) (rw p at (idk1-legal k h))))
+    (λ p. rw p (named-is-named (k .key) none refl))
 
 -- a set of one key or of two
 pub outgoing-formed : (q : Request) → Keyed q → keys-formed (outgoing-of q) ≡ true
@@ -126,12 +140,8 @@ date-run s h =
     and-true (is-run 0 12 12 s) (is-day (pair-of 0 s) (pair-of 2 s) (pair-of 4 s)) (a .0) .0
 
 date-legal : (q : Request) → Formed q → maybe-legal (field EDK) (asked (eqb (q .dated) 1) (q .date .digits)) ≡ true
-date-legal q f = go (eqb (q .dated) 1) (f .date)
-  where
-    go : (b : Bool) → b && not (is-date (q .date .digits)) ≡ false
-        → maybe-legal (field EDK) (asked b (q .date .digits)) ≡ true
-    go true r = date-run (q .date .digits) (not-false (is-date (q .date .digits)) r)
-    go false r = refl
+date-legal q f =
+    by-test (eqb (q .dated) 1) (λ p. rw p (date-run (q .date .digits) (not-false _ (rw p at (f .date))))) (λ p. rw p)
 
 first-fine : (q : Request) → Keyed q → bad-key (q .first) ≡ false
 first-fine q (one p h) = h

@@ -1,6 +1,6 @@
 -- The row of slots: finding, putting back, placing.
 use mathlib.Core.Path.{_≡_, refl, sym, ap, _∙_, subst}
-use mathlib.Core.Bool.{Bool, true, false, cond, _||_, true≢false}
+use mathlib.Core.Bool.{true, false, _||_, true≢false}
 use mathlib.Core.List.{List, [], _∷_, _++_}
 use mathlib.Core.Option.{some}
 use Prim.Native.Nat.{ℕ, zero, suc}
@@ -10,15 +10,16 @@ use lib.ListN.{length}
 use borrow.Author.Tests.{eqb-true}
 use Rattle.octets.specs.Text.{Text, same}
 use Rattle.octets.specs.Number.{copies}
-use Rattle.octets.proofs.Comparing.{both as and-true, same-equal as same-true, same-self as same-refl}
+use Rattle.octets.proofs.Comparing.{both as and-true, same-equal as same-true, same-differs, same-self as same-refl}
+use Rattle.csm.proofs.TextLaws.{none-some, some-inj}
 use Rattle.partner.specs.declared.Entry.{Entry}
 use Rattle.partner.specs.Entry.{empty}
 use Rattle.partner.specs.Legal as partner
 use Rattle.partner.specs.Record.{entry-size, entry-bytes}
 use Rattle.partner.proofs.Keeping.{rules}
 use Rattle.partner.specs.Table.{is-empty, slots-legal, find, put}
-use Rattle.calls.specs.Claims.{kept, turned, emptied, Slotwise, end, next}
-use Rattle.calls.proofs.Tests.{never, or-right, and-join}
+use Rattle.calls.specs.Claims.{Slot, kept, turned, emptied, Slotwise, end, next}
+use Rattle.calls.proofs.Tests.{never, or-right, and-join, by-test, not-holding}
 
 abbrev Slots : Type 0
 Slots = List Entry
@@ -49,49 +50,41 @@ empty-nobody e id h f = zero-front (e .identity .bytes) _ entry-size id h f
 
 -- a legal entry is no empty slot
 pub legal-full : (e : Entry) → partner.legal e ≡ true → is-empty e ≡ false
-legal-full e h = go (is-empty e) refl
-  where
-    go : (b : Bool) → is-empty e ≡ b → is-empty e ≡ false
-    go true q =
-        never (same (e .identity .bytes) (e .identity .bytes)) (same-refl (e .identity .bytes))
-        (empty-nobody e (e .identity .bytes) q (rules e h .identity-filled))
-    go false q = q
+legal-full e h =
+    not-holding (is-empty e) (λ q. same-differs (e .identity .bytes) (e .identity .bytes)
+    (empty-nobody e (e .identity .bytes) q (rules e h .identity-filled)) refl)
+
+-- a partner's slot is not empty
+pub full : (id : Text) (e : Entry) → partner.is-filled id ≡ true → same (e .identity .bytes) id ≡ true
+    → is-empty e ≡ false
+full id e named s =
+    not-holding (is-empty e) (λ q. never (same (e .identity .bytes) id) s (empty-nobody e id q named))
 
 -- ---- one partner's entry
 
 module _ (id : Text) where
   pub find-identity : (l : Slots) (e : Entry) → find id l ≡ some e → e .identity .bytes ≡ id
-  find-identity [] e h = absurd (let z : _≡_ {A = ℕ} 0 1 = cc in omega arith)
-  find-identity (f ∷ l) e h = go (same (f .identity .bytes) id) refl h (find-identity l e)
-    where
-      go : (b : Bool) → same (f .identity .bytes) id ≡ b → cond b (some f) (find id l) ≡ some e
-          → (find id l ≡ some e → e .identity .bytes ≡ id) → e .identity .bytes ≡ id
-      go true q h ih =
-          let p : f ≡ e = cc in
-          ap (λ (x : Entry). x .identity .bytes) (sym p) ∙ same-true (f .identity .bytes) id q
-      go false q h ih = ih h
+  find-identity [] e h = absurd (none-some e h)
+  find-identity (f ∷ l) e h =
+      by-test (same (f .identity .bytes) id)
+      (λ q. let p : some f ≡ some e = rw q at h in
+      ap (λ (x : Entry). x .identity .bytes) (sym (some-inj p)) ∙ same-true (f .identity .bytes) id q)
+      (λ q. find-identity l e (rw q at h))
 
   -- an entry put back as it was
   pub put-found : (l : Slots) (e : Entry) → find id l ≡ some e → put id e l ≡ l
   put-found [] e h = refl
-  put-found (f ∷ l) e h = go (same (f .identity .bytes) id) h (put-found l e)
-    where
-      go : (b : Bool) → cond b (some f) (find id l) ≡ some e → (find id l ≡ some e → put id e l ≡ l)
-          → cond b (e ∷ l) (f ∷ put id e l) ≡ f ∷ l
-      go true h ih = let p : f ≡ e = cc in ap (λ (x : Entry). x ∷ l) (sym p)
-      go false h ih = ap (λ (m : Slots). f ∷ m) (ih h)
+  put-found (f ∷ l) e h =
+      by-test (same (f .identity .bytes) id) (λ q. let p : some f ≡ some e = rw q at h in rw q (cc))
+      (λ q. rw (q, put-found l e (rw q at h)))
 
   -- what was put is found
   pub find-put : (l : Slots) (e f : Entry) → find id l ≡ some e → f .identity .bytes ≡ id
       → find id (put id f l) ≡ some f
-  find-put [] e f h g = absurd (let z : _≡_ {A = ℕ} 0 1 = cc in omega arith)
-  find-put (x ∷ l) e f h g = go (same (x .identity .bytes) id) refl h (find-put l e f)
-    where
-      go : (b : Bool) → same (x .identity .bytes) id ≡ b → cond b (some x) (find id l) ≡ some e
-          → (find id l ≡ some e → f .identity .bytes ≡ id → find id (put id f l) ≡ some f)
-          → find id (cond b (f ∷ l) (x ∷ put id f l)) ≡ some f
-      go true q h ih = rw (g, same-refl id)
-      go false q h ih = rw q (ih h g)
+  find-put [] e f h g = absurd (none-some e h)
+  find-put (x ∷ l) e f h g =
+      by-test (same (x .identity .bytes) id) (λ q. rw (q, g, same-refl id))
+      (λ q. rw (q, q) (find-put l e f (rw q at h) g))
 
   -- ---- every other slot
 
@@ -99,23 +92,19 @@ module _ (id : Text) where
   row-same [] = end
   row-same (e ∷ l) = next (kept e) (row-same l)
 
+  row-at : (f : Entry) → ((e : Entry) → e .identity .bytes ≡ id → Slot id e f) → (l : Slots)
+      → Slotwise id l (put id f l)
+  row-at f h [] = end
+  row-at f h (e ∷ l) =
+      by-test (same (e .identity .bytes) id)
+      (λ q. rw q (next (h e (same-true (e .identity .bytes) id q)) (row-same l)))
+      (λ q. rw q (next (kept e) (row-at f h l)))
+
   pub row-put : (l : Slots) (f : Entry) → f .identity .bytes ≡ id → Slotwise id l (put id f l)
-  row-put [] f g = end
-  row-put (e ∷ l) f g = go (same (e .identity .bytes) id) refl (row-put l f g)
-    where
-      go : (b : Bool) → same (e .identity .bytes) id ≡ b → Slotwise id l (put id f l)
-          → Slotwise id (e ∷ l) (cond b (f ∷ l) (e ∷ put id f l))
-      go true q r = next (turned e f (same-true (e .identity .bytes) id q) g) (row-same l)
-      go false q r = next (kept e) r
+  row-put l f g = row-at f (λ e p. turned e f p g) l
 
   pub row-empty : (l : Slots) → Slotwise id l (put id empty l)
-  row-empty [] = end
-  row-empty (e ∷ l) = go (same (e .identity .bytes) id) refl (row-empty l)
-    where
-      go : (b : Bool) → same (e .identity .bytes) id ≡ b → Slotwise id l (put id empty l)
-          → Slotwise id (e ∷ l) (cond b (empty ∷ l) (e ∷ put id empty l))
-      go true q r = next (emptied e (same-true (e .identity .bytes) id q)) (row-same l)
-      go false q r = next (kept e) r
+  row-empty l = row-at empty emptied l
 
   pub row-length : (l m : Slots) → Slotwise id l m → length m ≡ length l
   row-length l m end = refl
@@ -142,28 +131,18 @@ empty-slot = rw empty-is
 module _ (id : Text) (named : partner.is-filled id ≡ true) where
   -- the entry that is found is legal
   pub legal-find : (l : Slots) (e : Entry) → slots-legal l ≡ true → find id l ≡ some e → partner.legal e ≡ true
-  legal-find [] e h k = absurd (let z : _≡_ {A = ℕ} 0 1 = cc in omega arith)
-  legal-find (f ∷ l) e h k = go (same (f .identity .bytes) id) refl k (legal-find l e)
-    where
-      full : (b : Bool) → is-empty f ≡ b → same (f .identity .bytes) id ≡ true → is-empty f ≡ false
-      full true q s = never (same (f .identity .bytes) id) s (empty-nobody f id q named)
-      full false q s = q
-
-      go : (b : Bool) → same (f .identity .bytes) id ≡ b → cond b (some f) (find id l) ≡ some e
-          → (slots-legal l ≡ true → find id l ≡ some e → partner.legal e ≡ true) → partner.legal e ≡ true
-      go true q k ih =
-          let p : f ≡ e = cc in
-          subst (λ (x : Entry). partner.legal x ≡ true) p
-          (or-right (is-empty f) (partner.legal f) (full (is-empty f) refl q) (slot-of f l h .0))
-      go false q k ih = ih (slot-of f l h .1) k
+  legal-find [] e h k = absurd (none-some e k)
+  legal-find (f ∷ l) e h k =
+      by-test (same (f .identity .bytes) id)
+      (λ q. let p : some f ≡ some e = rw q at k in
+      subst (λ (x : Entry). partner.legal x ≡ true) (some-inj p)
+      (or-right (is-empty f) (partner.legal f) (full id f named q) (slot-of f l h .0)))
+      (λ q. legal-find l e (slot-of f l h .1) (rw q at k))
 
 pub legal-put : (id : Text) (l : Slots) (x : Entry) → slots-legal l ≡ true → is-empty x || partner.legal x ≡ true
     → slots-legal (put id x l) ≡ true
 legal-put id [] x h k = h
-legal-put id (e ∷ l) x h k = go (same (e .identity .bytes) id) (slot-of e l h) (legal-put id l x)
-  where
-    go : (b : Bool) → (is-empty e || partner.legal e ≡ true) × (slots-legal l ≡ true)
-        → (slots-legal l ≡ true → is-empty x || partner.legal x ≡ true → slots-legal (put id x l) ≡ true)
-        → slots-legal (cond b (x ∷ l) (e ∷ put id x l)) ≡ true
-    go true s ih = slots-of x l k (s .1)
-    go false s ih = slots-of e (put id x l) (s .0) (ih (s .1) k)
+legal-put id (e ∷ l) x h k =
+    let s = slot-of e l h in
+    by-test (same (e .identity .bytes) id) (λ q. rw q (slots-of x l k (s .1)))
+    (λ q. rw q (slots-of e (put id x l) (s .0) (legal-put id l x (s .1) k)))

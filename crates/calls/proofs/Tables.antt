@@ -1,6 +1,6 @@
 -- A legal table's rules one by one, and one partner's entry in it.
-use mathlib.Core.Path.{_≡_, refl, ap, _∙_}
-use mathlib.Core.Bool.{Bool, true, false}
+use mathlib.Core.Path.{_≡_, ap, _∙_}
+use mathlib.Core.Bool.{true}
 use mathlib.Core.List.{_∷_}
 use mathlib.Core.Option.{none, some}
 use lib.Dec.{eqb}
@@ -17,9 +17,10 @@ use Rattle.partner.proofs.Naming.{filled-name}
 use Rattle.partner.proofs.Claims.{claims}
 use Rattle.partner.specs.Table.{Table, slots-legal, identities, differs, apart, find, put, legal}
 use Rattle.calls.specs.Words.{if_then_else_}
-use Rattle.calls.specs.Calls.{entry-of}
+use Rattle.calls.specs.Outcome.{Turn}
+use Rattle.calls.specs.Calls.{After, entry-of}
 use Rattle.partner.specs.Table.{holding}
-use Rattle.calls.proofs.Tests.{if-true}
+use Rattle.calls.proofs.Tests.{if-true, by-test}
 use Rattle.calls.proofs.Slots.{find-identity, find-put, legal-find}
 use Rattle.calls.proofs.Identities.{find-emptied}
 
@@ -41,10 +42,6 @@ pub legal-whole : (t : Table) → Legal t → legal t ≡ true
 unfolding legal
 legal-whole t h = rw (h .size, h .own, h .entries, h .differ)
 
--- the partners' identities differ
-pub partners-apart : (t : Table) → Legal t → apart (identities (t .slots)) ≡ true
-partners-apart t h = and-true (differs (t .own) (identities (t .slots))) (apart (identities (t .slots))) (h .differ) .1
-
 -- our identity bare is a name
 pub own-name : (t : Table) → legal t ≡ true → is-name (bare (t .own)) ≡ true
 own-name t h = filled-name (t .own) (legal-parts t h .own)
@@ -64,15 +61,8 @@ held t id e n f =
 
 pub entry-held : (t : Table) (id : Text) (e : Entry) → entry-of id t ≡ some e → Held t id e
 unfolding if_then_else_
-entry-held t id e h = go (is-name id) refl h
-  where
-    go : (b : Bool) → is-name id ≡ b → (if b then find (filled id) (t .slots) else none) ≡ some e → Held t id e
-    go true q h = held t id e q h
-    go false q h = absurd (none-some _ h)
-
-pub held-entry : (t : Table) (id : Text) (e : Entry) → is-name id ≡ true → find (filled id) (t .slots) ≡ some e
-    → entry-of id t ≡ some e
-held-entry t id e n f = if-true (is-name id) _ _ n ∙ f
+entry-held t id e h =
+    by-test (is-name id) (λ q. held t id e q (rw q at h)) (λ q. absurd (none-some e (rw q at h)))
 
 pub held-legal : (t : Table) (id : Text) (e : Entry) → legal t ≡ true → Held t id e → partner.legal e ≡ true
 held-legal t id e h k =
@@ -80,14 +70,19 @@ held-legal t id e h k =
 
 -- ---- the entry afterwards
 
+-- the table with a partner's entry turned
+abbrev pub put-back : Table → Text → Turn → After
+put-back t id r = record { outcome = r .outcome; table = holding t (put (filled id) (r .entry) (t .slots)) }
+
 pub turned-after : (t : Table) (id : Text) (e f : Entry) → Held t id e → f .identity ≡ e .identity
     → entry-of id (holding t (put (filled id) f (t .slots))) ≡ some f
 turned-after t id e f h i =
-    held-entry (holding t (put (filled id) f (t .slots))) id f (h .name)
-    (find-put (filled id) (t .slots) e f (h .found) (ap (λ (n : Name). n .bytes) i ∙ h .identity))
+    if-true (is-name id) _ _ (h .name)
+    ∙ find-put (filled id) (t .slots) e f (h .found) (ap (λ (n : Name). n .bytes) i ∙ h .identity)
 
 pub emptied-after : (t : Table) (id : Text) (e : Entry) → legal t ≡ true → Held t id e
     → entry-of id (holding t (put (filled id) empty (t .slots))) ≡ none
 emptied-after t id e l h =
     if-true (is-name id) _ _ (h .name)
-    ∙ find-emptied (filled id) (claims .filled-is-filled id (h .name)) (t .slots) (partners-apart t (legal-parts t l))
+    ∙ find-emptied (filled id) (claims .filled-is-filled id (h .name)) (t .slots)
+    (and-true (differs (t .own) (identities (t .slots))) _ (legal-parts t l .differ) .1)

@@ -1,6 +1,7 @@
 -- Laws of the control words and of tests.
 use mathlib.Core.Path.{_≡_, refl, sym}
 use mathlib.Core.Bool.{Bool, true, false, _&&_, _||_, true≢false}
+use mathlib.Core.Option.{Option, none, some}
 use Rattle.calls.specs.Words.{if_then_else_}
 
 -- no test both holds and fails
@@ -35,3 +36,22 @@ pub if-true : {A : Type 0} (b : Bool) (x y : A) → b ≡ true → (if b then x 
 unfolding if_then_else_
 if-true true x y e = refl
 if-true false x y e = absurd (true≢false (sym e))
+
+-- a test holds or fails
+pub by-test : {A : Type 0} (b : Bool) → (b ≡ true → A) → (b ≡ false → A) → A
+by-test true f g = f refl
+by-test false f g = g refl
+
+-- what cannot fail holds, and what cannot hold fails
+pub not-failing : (b : Bool) → (b ≡ false → ⊥) → b ≡ true
+not-failing true h = refl
+not-failing false h = absurd (h refl)
+
+pub not-holding : (b : Bool) → (b ≡ true → ⊥) → b ≡ false
+not-holding true h = absurd (h refl)
+not-holding false h = refl
+
+-- something is there or not
+pub by-part : {A B : Type 0} (o : Option B) → (o ≡ none → A) → ((b : B) → o ≡ some b → A) → A
+by-part none f g = f refl
+by-part (some b) f g = g b refl

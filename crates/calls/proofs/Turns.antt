@@ -11,28 +11,29 @@ use borrow.Author.Tests.{eqb-true, eqb-false, not-true, not-false, ltb-false}
 use Rattle.octets.specs.Text.{Text, same, within, is-name}
 use Rattle.octets.specs.Part.{bare}
 use Rattle.octets.proofs.Comparing.{both as and-true}
-use Rattle.csm.specs.Format.{value, maybe-legal}
-use Rattle.csm.specs.Fields.{KD, CTP, field, Kd, kd, svr}
-use Rattle.csm.specs.Message.{Body, Ksm, rsi, ksm, rsm, esm, option, legal-body, print}
-use Rattle.csm.proofs.TextLaws.{within-true}
+use Rattle.keying.specs.Mac.{mac-key, mac}
+use Rattle.csm.specs.Format.{value}
+use Rattle.csm.specs.Fields.{Kd, kd, svr}
+use Rattle.csm.specs.Message.{Body, Rsi, Ksm, Rsm, Esm, rsi, ksm, rsm, esm, option, legal-body, print}
+use Rattle.csm.specs.Covered.{covered}
+use Rattle.csm.proofs.TextLaws.{within-true, some-inj, none-some}
 use Rattle.partner.specs.declared.KeySet.{KeySet}
 use Rattle.partner.specs.declared.Entry.{Entry}
-use Rattle.partner.specs.Entry.{limit, waiting}
+use Rattle.partner.specs.Entry.{limit, waiting, keys-in}
 use Rattle.partner.specs.Legal.{is-named, keys-formed, legal}
 use Rattle.partner.specs.Changes.{with-receiving, with-sending, accepted, issued, settled, given-up, failed}
 use Rattle.partner.proofs.Keeping.{rules}
 use Rattle.partner.proofs.Claims.{claims}
 use Rattle.calls.specs.declared.Request.{Request}
-use Rattle.calls.specs.Outcome.{F, I, K, M, O, P, Told, nothing, failure, Turn, refusal, refused, done}
-use Rattle.calls.specs.Receive.{to-partner, esm-body, error, brought-key, brought, when, faults}
+use Rattle.calls.specs.Outcome.{F, I, K, M, O, P, Told, Turn, refusal, refused, done}
+use Rattle.calls.specs.Receive.{to-partner, rsm-text, esm-body, error, brought-key, brought, when, faults}
 use Rattle.calls.specs.Receive.{bad-format, bad-mac, bad-count, counts-for, judged, receive-ksm, is-waiting}
 use Rattle.calls.specs.Receive.{receive-rsm, after-esm, receive-esm, receive}
 use Rattle.calls.specs.Build.{outgoing-of, build-ksm, build-rsi, give-up}
 use Rattle.calls.specs.Claims.{Carries, Answers, Complains}
-use Rattle.calls.proofs.Tests.{or-split, by-case}
-use Rattle.calls.proofs.Names.{named-is-named}
+use Rattle.calls.proofs.Tests.{or-split, by-case, by-test, by-part}
 use Rattle.calls.proofs.Readings.{esm-legal, counted-legal, kd-name, ksm-parts, esm-count}
-use Rattle.calls.proofs.Requests.{formed, outgoing-formed}
+use Rattle.calls.proofs.Requests.{named-is-named, formed, outgoing-formed}
 use Rattle.calls.proofs.Written.{to-them, rsm-written, sent, sent-written}
 
 -- ---- the changes
@@ -55,7 +56,6 @@ change-legal e f (gives-up w) h = claims .given-up-is-legal e h w
 change-legal e f (fails x w j l) h = claims .failed-is-legal e x h w j l
 
 pub change-identity : (e f : Entry) → Change e f → f .identity ≡ e .identity
-unfolding accepted issued settled given-up failed
 change-identity e f stays = refl
 change-identity e f (takes n set g c k l) = refl
 change-identity e f (issues set g k) = refl
@@ -91,30 +91,43 @@ pub data Does (us : Text) (e : Entry) (R : Text → Type 0) : Turn → Type 0 wh
       → Does us e R (error us e l c)
   does : (f : Entry) (s : Text) (o : Told) → Change e f → R s → Does us e R (done f s o)
 
+-- ---- the counts of an ESM, and the ESM that is written
+
+abbrev pub first-count : Option (ℕ × ℕ) → Option ℕ
+first-count none = none
+first-count (some (x, y)) = some x
+
+abbrev pub second-count : Option (ℕ × ℕ) → Option ℕ
+second-count none = none
+second-count (some (x, y)) = some y
+
+pub error-written : (us : Text) (e : Entry) → is-name us ≡ true → legal e ≡ true → (n : ℕ) (o : Option (ℕ × ℕ))
+    → legal-body (esm-body n o) ≡ true
+    → Carries us (bare (e .identity .bytes))
+    (esm (record { ctp = first-count o; ctr = second-count o; erf = n; edc = none })) (print (to-partner us e (esm-body n o)))
+error-written us e u l n none h = to-them us e u l (esm-body n none) refl h
+error-written us e u l n (some (x, y)) h = to-them us e u l (esm-body n (some (x, y))) refl h
+
 -- ---- receive
 
 -- a value is legal
-svr-legal : (w : Text) (s : ℕ) → value svr w ≡ some s → svr .legal s ≡ true
-svr-legal w s h = go (svr .legal (svr .guess w)) (same (svr .text (svr .guess w)) w) refl h
-  where
-    go : (a b : Bool) → svr .legal (svr .guess w) ≡ a → cond (a && b) (some (svr .guess w)) none ≡ some s
-        → svr .legal s ≡ true
-    go true true q h = let p : svr .guess w ≡ s = cc in ap (svr .legal) (sym p) ∙ q
-    go true false q h = absurd (let z : _≡_ {A = ℕ} 0 1 = cc in omega arith)
-    go false b q h = absurd (let z : _≡_ {A = ℕ} 0 1 = cc in omega arith)
+pub svr-legal : (w : Text) (s : ℕ) → value svr w ≡ some s → svr .legal s ≡ true
+svr-legal w s h =
+    by-test (svr .legal (svr .guess w) && same (svr .text (svr .guess w)) w)
+    (λ p. let i : some (svr .guess w) ≡ some s = rw p at h in
+    ap (svr .legal) (sym (some-inj i)) ∙ and-true (svr .legal (svr .guess w)) _ p .0)
+    (λ p. absurd (none-some s (rw p at h)))
 
 brought-formed : (e : Entry) (m : Ksm) → legal-body (ksm m) ≡ true → keys-formed (brought e m) ≡ true
 unfolding brought
-brought-formed e m h = let p = ksm-parts m h in go (m .second) refl (p .first) (p .second)
+brought-formed e m h =
+    let p = ksm-parts m h in
+    by-part (m .second) (λ q. rw q (claims .one-key-is-formed (brought-key e m (m .kd)) (named (m .kd) (p .first))))
+    (λ k q. rw q (claims .two-keys-are-formed (brought-key e m (m .kd)) (brought-key e m k) (named (m .kd) (p .first))
+    (named k (rw q at (p .second)))))
   where
     named : (k : Kd) → kd .legal k ≡ true → is-named (brought-key e m k) ≡ true
     named k l = named-is-named _ (k .idk1) (kd-name k l)
-
-    go : (o : Option Kd) → m .second ≡ o → kd .legal (m .kd) ≡ true → maybe-legal (field KD) o ≡ true
-        → keys-formed (brought e m) ≡ true
-    go none q a b = rw q (claims .one-key-is-formed (brought-key e m (m .kd)) (named (m .kd) a))
-    go (some k) q a b =
-        rw q (claims .two-keys-are-formed (brought-key e m (m .kd)) (brought-key e m k) (named (m .kd) a) (named k b))
 
 -- the letters of F, M and P that hold, with counts where P does
 pub letters-legal : (a b c : Bool) (x y : ℕ) → within 1 limit x ≡ true → within 1 limit y ≡ true
@@ -129,13 +142,16 @@ letters-legal false true false x y h i k = esm-legal 32 refl refl
 letters-legal false false true x y h i k = counted-legal 128 x y refl refl h i
 letters-legal false false false x y h i k = absurd (true≢false (sym k))
 
--- where no letter stands, P does not
-pub no-P : (a b c : Bool) → eqb (when a F + (when b M + when c P)) 0 ≡ true → c ≡ false
-no-P a b false h = refl
-no-P true true true h = absurd (true≢false (sym h))
-no-P true false true h = absurd (true≢false (sym h))
-no-P false true true h = absurd (true≢false (sym h))
-no-P false false true h = absurd (true≢false (sym h))
+-- where no letter stands, none of F, M, P holds
+unless-0 : (b : Bool) (n : ℕ) → eqb n 0 ≡ false → when b n ≡ 0 → b ≡ false
+unless-0 true n z h = absurd (eqb-false n 0 z h)
+unless-0 false n z h = refl
+
+pub none-holds : (a b c : Bool) → eqb (when a F + (when b M + when c P)) 0 ≡ true
+    → (a ≡ false) × (b ≡ false) × (c ≡ false)
+none-holds a b c h =
+    let i = eqb-true (when a F + (when b M + when c P)) 0 h in
+    (unless-0 a F refl (omega arith), unless-0 b M refl (omega arith), unless-0 c P refl (omega arith))
 
 -- a count that is not the last is below it
 pub short-of-last : (n : ℕ) → within 1 limit n ≡ true → eqb n limit ≡ false → n < limit
@@ -146,47 +162,63 @@ in-wait : (e : Entry) → not (is-waiting (e .sending)) ≡ false → e .sending
 unfolding is-waiting
 in-wait e h = eqb-true (e .sending .phase) waiting (not-false (eqb (e .sending .phase) waiting) h)
 
+-- what a message that is received comes to, by its class
+pub data Step (us : Text) (e : Entry) (text : Text) : Body → Turn → Type 0 where
+  vain : (b : Body) → Step us e text b (refused e 5)
+  errs : (b : Body) (l : ℕ) (c : Option (ℕ × ℕ)) → (l ≡ 0 → ⊥) → legal-body (esm-body l c) ≡ true
+      → Step us e text b (error us e l c)
+  serves : (m : Rsi) (o : Told) → Step us e text (rsi m) (done e [] o)
+  accepts : (m : Ksm) (o : Told) → e .receiving .expected ≤ m .ctp → m .ctp < limit → Step us e text (ksm m)
+      (done (with-receiving e (accepted (m .ctp) (brought e m))) (rsm-text us e (brought e m)) o)
+  confirms : (m : Rsm) (o : Told) → e .sending .phase ≡ waiting
+      → m .mac ≡ mac (mac-key (keys-in (e .sending .outgoing))) (covered text)
+      → Step us e text (rsm m) (done (with-sending e (settled (e .sending))) [] o)
+  breaks : (m : Esm) (o : Told) → e .sending .phase ≡ waiting
+      → Step us e text (esm m) (done (with-sending e (after-esm (e .sending) m)) [] o)
+
+pub receive-step : (us : Text) (e : Entry) (text : Text) → legal e ≡ true → (b : Body) → legal-body b ≡ true
+    → Step us e text b (receive us e text b)
+unfolding receive receive-ksm judged faults bad-count receive-rsm bad-mac receive-esm
+receive-step us e text lawful (rsi m) h = serves m _
+receive-step us e text lawful (ksm m) h =
+    let set = brought e m in
+    let c = ksm-parts m h .count in
+    by-case (Step us e text (ksm m)) _ _ _ (λ q. errs _ I none (eqb-false I 0 refl) (esm-legal I refl refl)) λ q.
+    by-case (Step us e text (ksm m)) _ _ _ (λ q. errs _ K none (eqb-false K 0 refl) (esm-legal K refl refl)) λ q.
+    by-case (Step us e text (ksm m)) _ _ _
+    (λ q. errs _ (faults e set text m) (counts-for e m) (eqb-false _ 0 (not-true _ q))
+    (letters-legal (bad-format set m) (bad-mac set text (m .mac)) (bad-count (e .receiving .expected) (m .ctp))
+    (e .receiving .expected) (m .ctp) (rules e lawful .expected-right) c q)) λ q.
+    let k = or-split _ _ (none-holds (bad-format set m) (bad-mac set text (m .mac)) _ (not-false _ q) .2) in
+    accepts m _ (ltb-false (m .ctp) (e .receiving .expected) (k .0)) (short-of-last (m .ctp) c (k .1))
+receive-step us e text lawful (rsm m) h =
+    by-case (Step us e text (rsm m)) _ _ _ (λ q. vain _) λ w.
+    by-case (Step us e text (rsm m)) _ _ _ (λ q. errs _ M none (eqb-false M 0 refl) (esm-legal M refl refl)) λ q.
+    confirms m _ (in-wait e w) (sym (eqb-true _ (m .mac) (not-false _ q)))
+receive-step us e text lawful (esm m) h =
+    by-case (Step us e text (esm m)) _ _ _ (λ q. vain _) (λ w. breaks m _ (in-wait e w))
+receive-step us e text lawful (option c w) h = errs _ O none (eqb-false O 0 refl) (esm-legal O refl refl)
+
 module _ (us : Text) (e : Entry) (named : is-name us ≡ true) (lawful : legal e ≡ true) where
   abbrev Replies : Body → Turn → Type 0
   Replies b = Does us e (Answers us (bare (e .identity .bytes)) b)
 
-  judged-does : (text : Text) (m : Ksm) → legal-body (ksm m) ≡ true
-      → Replies (ksm m) (judged us e text m (brought e m))
-  unfolding judged faults bad-count
-  judged-does text m h =
-      let set = brought e m in
-      let c = ksm-parts m h .count in
-      by-case (Replies (ksm m)) _ _ _
-      (λ q. complains (faults e set text m) (counts-for e m) (eqb-false _ 0 (not-true _ q))
-      (letters-legal (bad-format set m) (bad-mac set text (m .mac)) (bad-count (e .receiving .expected) (m .ctp))
-      (e .receiving .expected) (m .ctp) (rules e lawful .expected-right) c q))
-      (λ q. let k = or-split _ _ (no-P (bad-format set m) (bad-mac set text (m .mac)) _ (not-false _ q)) in
-      let x = rsm-written us e named lawful set in
-      does _ _ _ (takes (m .ctp) set (brought-formed e m h) (within-true 1 limit (m .ctp) c .0)
-      (short-of-last (m .ctp) c (k .1)) (ltb-false (m .ctp) (e .receiving .expected) (k .0))) (x .0, x .1))
+  step-does : {text : Text} {b : Body} {r : Turn} → Step us e text b r → legal-body b ≡ true → Replies b r
+  step-does (vain b) h = refuses 5 refl
+  step-does (errs b l c k i) h = complains l c k i
+  step-does (serves m o) h = does _ _ _ stays refl
+  step-does (accepts m o v u) h =
+      let x = rsm-written us e named lawful (brought e m) in
+      does _ _ _ (takes (m .ctp) (brought e m) (brought-formed e m h)
+      (within-true 1 limit (m .ctp) (ksm-parts m h .count) .0) u v) (x .0, x .1)
+  step-does (confirms m o w s) h = does _ _ _ (settles w) refl
+  step-does (breaks m o w) h =
+      by-part (m .ctp) (λ q. does (with-sending e (after-esm (e .sending) m)) [] o (rw q (gives-up w)) refl) λ x q.
+      let b = within-true 1 limit x (rw q at (esm-count m h)) in
+      does (with-sending e (after-esm (e .sending) m)) [] o (rw q (fails x w (b .0) (b .1))) refl
 
   pub receive-does : (text : Text) (b : Body) → legal-body b ≡ true → Replies b (receive us e text b)
-  unfolding receive receive-ksm receive-rsm receive-esm
-  receive-does text (rsi m) h = does _ _ _ stays refl
-  receive-does text (ksm m) h =
-      by-case (Replies (ksm m)) _ _ _ (λ q. complains I none (eqb-false I 0 refl) (esm-legal I refl refl)) λ q.
-      by-case (Replies (ksm m)) _ _ _ (λ q. complains K none (eqb-false K 0 refl) (esm-legal K refl refl)) λ q.
-      judged-does text m h
-  receive-does text (rsm m) h =
-      by-case (Replies (rsm m)) _ _ _ (λ q. refuses 5 refl) λ w.
-      by-case (Replies (rsm m)) _ _ _ (λ q. complains M none (eqb-false M 0 refl) (esm-legal M refl refl)) λ q.
-      does _ _ _ (settles (in-wait e w)) refl
-  receive-does text (esm m) h =
-      by-case (Replies (esm m)) _ _ _ (λ q. refuses 5 refl) λ w.
-      go (in-wait e w) (m .ctp) refl (esm-count m h)
-    where
-      go : e .sending .phase ≡ waiting → (o : Option ℕ) → m .ctp ≡ o → maybe-legal (field CTP) o ≡ true
-          → Replies (esm m) (done (with-sending e (after-esm (e .sending) m)) [] (failure (m .erf)))
-      go w none q l = does (with-sending e (after-esm (e .sending) m)) [] _ (rw q (gives-up w)) refl
-      go w (some x) q l =
-          let b = within-true 1 limit x l in
-          does (with-sending e (after-esm (e .sending) m)) [] _ (rw q (fails x w (b .0) (b .1))) refl
-  receive-does text (option c w) h = complains O none (eqb-false O 0 refl) (esm-legal O refl refl)
+  receive-does text b h = step-does (receive-step us e text lawful b h) h
 
   -- ---- build, give up
 
@@ -211,18 +243,10 @@ module _ (us : Text) (e : Entry) (named : is-name us ≡ true) (lawful : legal e
   pub build-rsi-does : (contents : Text)
       → Does us e (Builds-rsi contents) (build-rsi us e contents)
   unfolding build-rsi
-  build-rsi-does contents = go (value svr contents) refl
-    where
-      go : (o : Option ℕ) → value svr contents ≡ o
-          → Does us e (Builds-rsi contents)
-          (elim o [
-            | none ↦ refused e 12
-            | some s ↦ done e (print (to-partner us e (rsi (record { svr = s; edc = none })))) nothing
-          ])
-      go none q = refuses 12 refl
-      go (some s) q =
-          let b = rsi (record { svr = s; edc = none }) in
-          does _ _ _ stays (s, q, to-them us e named lawful b refl (rw (svr-legal contents s q)))
+  build-rsi-does contents =
+      by-part (value svr contents) (λ q. rw (q, build-rsi) (refuses 12 refl)) λ s q.
+      rw (q, build-rsi) (does _ _ _ stays
+      (s, q, to-them us e named lawful (rsi (record { svr = s; edc = none })) refl (rw (svr-legal contents s q))))
 
 pub give-up-does : (us : Text) (e : Entry) → Does us e (λ s. s ≡ []) (give-up e)
 unfolding give-up
@@ -263,17 +287,9 @@ module _ {us : Text} {e : Entry} {R : Text → Type 0} where
       → Complains us (bare (e .identity .bytes)) (t .outcome)
   does-complain t u l (refuses n k) h =
       absurd (refusing-not-4 n k h)
-  does-complain t u l (complains n none k b) h = record {
-    message = record { ctp = none; ctr = none; erf = n; edc = none };
-    written = to-them us e u l (esm-body n none) refl b;
-    same-letters = refl;
-    some-letter = k;
-    no-edc = refl;
-    no-more = refl;
-  }
-  does-complain t u l (complains n (some (x, y)) k b) h = record {
-    message = record { ctp = some x; ctr = some y; erf = n; edc = none };
-    written = to-them us e u l (esm-body n (some (x, y))) refl b;
+  does-complain t u l (complains n o k b) h = record {
+    message = record { ctp = first-count o; ctr = second-count o; erf = n; edc = none };
+    written = error-written us e u l n o b;
     same-letters = refl;
     some-letter = k;
     no-edc = refl;

@@ -1,20 +1,16 @@
 -- The card's two ends as the theorem sees them: texts by their readings, units by their fields.
 use mathlib.Core.Path.{_≡_, refl, ap, _∙_}
-use mathlib.Core.Bool.{Bool, true, false, cond}
-use mathlib.Core.List.{[]}
+use mathlib.Core.Bool.{true, false}
 use mathlib.Core.Logic.{_≢_}
 use mathlib.Core.Option.{Option, none, some}
-use Prim.Native.Nat.{ℕ, _^_, _<_}
+use Prim.Native.Nat.{ℕ, _<_}
 use native.Mathlib.Omega.{arith}
-use lib.Dec.{eqb}
 use Rattle.octets.specs.Text.{Text, same}
-use Rattle.octets.specs.Part.{bare}
 use Rattle.octets.proofs.Comparing.{same-equal, differs-same, same-self as same-refl}
 use Rattle.keying.specs.declared.Top.{Top}
 use Rattle.keying.specs.declared.Top.the-variants.{Single, Pair}
-use Rattle.keying.specs.Keys.{working, seal, unseal}
+use Rattle.keying.specs.Keys.{working, unseal}
 use Rattle.keying.specs.Mac.{mac-key, mac}
-use Rattle.keying.proofs.Laws.{unseal-seal}
 use Rattle.csm.specs.Fields.{Kd, named}
 use Rattle.csm.specs.Message.{Ksm, Body, rsi, ksm, rsm, esm, option, Reading, read}
 use Rattle.csm.specs.Covered.{covered-part}
@@ -26,13 +22,12 @@ use Rattle.partner.specs.declared.Entry.{Entry}
 use Rattle.partner.specs.Entry.{name-of, keys-in, top-of, one-key, two-keys}
 use Rattle.partner.specs.Legal.{legal}
 use Rattle.partner.specs.Changes.{loaded}
-use Rattle.calls.specs.declared.KeyRequest.{KeyRequest}
 use Rattle.calls.specs.declared.Request.{Request}
 use Rattle.calls.specs.Words.{if_then_else_, any}
 use Rattle.calls.specs.Receive.{rsm-body, brought}
-use Rattle.calls.specs.Build.{used, not-odd, malformed, wants-idk1, asked, outgoing-key, outgoing-of, kd-for}
+use Rattle.calls.specs.Build.{used, not-odd, malformed, outgoing-of}
 use Rattle.calls.specs.Build.{ksm-text}
-use Rattle.calls.proofs.Written.{sent}
+use Rattle.calls.proofs.Tests.{by-test, by-part}
 use Rattle.line.specs.Line.{In-64-bits, entry-for}
 use Rattle.line.proofs.CoreEnds.{Carried, key-message, no-key-message, Answer, answer, no-answer, Ends}
 use Rattle.line.proofs.CardTurn.{partner, Plain, service, fault}
@@ -52,42 +47,6 @@ brought-by-top e f m h =
     let key : Kd → DataKey = λ k.
     record { key = unseal (working x (m .ctp)) (k .key); name = name-of (named (k .idk1)) } in
     elim (m .second) [ none ↦ one-key (key (m .kd)) | some k ↦ two-keys (key (m .kd)) (key k) ]) h
-
--- a key that was sealed comes out with the name it was given
-brought-one : (e : Entry) (k : KeyRequest) → k .key < 2 ^ 64
-    → _≡_ {A = DataKey}
-    (record {
-      key = unseal (working (top-of (e .top)) (e .sending .next)) (kd-for e k .key);
-      name = name-of (named (kd-for e k .idk1));
-    })
-    (outgoing-key k)
-brought-one e k small = λ j. record { key = keys j; name = name-of (names (wants-idk1 k) j) }
-  where
-    keys : unseal (working (top-of (e .top)) (e .sending .next)) (seal (working (top-of (e .top)) (e .sending .next)) (k .key)) ≡ k .key
-    keys = unseal-seal (working (top-of (e .top)) (e .sending .next)) (k .key) small
-
-    names : (b : Bool) → named (asked b (bare (k .name .bytes)))
-        ≡ cond b (bare (k .name .bytes)) []
-    names true = refl
-    names false = refl
-
--- a message that is built brings the keys and names that are stored
-pub brought-sent : (us : Text) (e : Entry) (q : Request) → In-64-bits q → brought e (sent us e q) ≡ outgoing-of q
-unfolding brought outgoing-of if_then_else_ sent
-brought-sent us e q small = go (eqb (q .count) 2)
-  where
-    key : Kd → DataKey
-    key k = record { key = unseal (working (top-of (e .top)) (e .sending .next)) (k .key); name = name-of (named (k .idk1)) }
-
-    go : (b : Bool)
-        → elim (asked b (kd-for e (q .second))) [
-          | none ↦ one-key (key (kd-for e (q .first)))
-          | some k ↦ two-keys (key (kd-for e (q .first))) (key k)
-        ]
-        ≡ (if b then two-keys (outgoing-key (q .first)) (outgoing-key (q .second)) else
-        one-key (outgoing-key (q .first)))
-    go true = λ j. two-keys (brought-one e (q .first) (small .first) j) (brought-one e (q .second) (small .second) j)
-    go false = λ j. one-key (brought-one e (q .first) (small .first) j)
 
 -- ---- A under the identity a, B under b
 
@@ -197,7 +156,13 @@ module _ (a b name : Text) (top : Top) where
 
   pub read-as : (t : Text) (n : ℕ) (k : KeySet) → carried-by (read t) ≡ key-message n k → Read-as t n k
   unfolding carried-by carried-in if_then_else_
-  read-as t n k h = by-reading (read t) refl h
+  read-as t n k h =
+      by-part (read t) (λ q. contra (rw q at h)) λ r q.
+      by-test (same (r .rcv) b)
+      (λ u. by-test (same (r .org) a)
+      (λ v. by-body r (r .body) refl q (same-equal (r .rcv) b u) (same-equal (r .org) a v) (rw (q, u, v) at h))
+      (λ v. contra (rw (q, u, v) at h)))
+      (λ u. contra (rw (q, u) at h))
     where
       contra : {A : Type 0} → no-key-message ≡ key-message n k → A
       contra e = absurd (let z : _≡_ {A = ℕ} 0 1 = cc in omega arith)
@@ -207,21 +172,10 @@ module _ (a b name : Text) (top : Top) where
       by-body r (ksm m) p q u v e = record {
         message = m;
         reading = q ∙ (λ j. some (record { rcv = u j; org = v j; body = p j }));
-        count = let f : m .ctp ≡ n = cc in f;
-        keys = let f : brought (entry-for name top a) m ≡ k = cc in f;
+        count = cc;
+        keys = cc;
       }
       by-body r (rsi m) p q u v e = contra e
       by-body r (rsm m) p q u v e = contra e
       by-body r (esm m) p q u v e = contra e
       by-body r (option c w) p q u v e = contra e
-
-      by-parties : (r : Reading) → read t ≡ some r → (c d : Bool) → same (r .rcv) b ≡ c → same (r .org) a ≡ d
-          → (if c then (if d then carried-in (r .body) else no-key-message) else no-key-message) ≡ key-message n k
-          → Read-as t n k
-      by-parties r q true true u v e = by-body r (r .body) refl q (same-equal (r .rcv) b u) (same-equal (r .org) a v) e
-      by-parties r q true false u v e = contra e
-      by-parties r q false d u v e = contra e
-
-      by-reading : (o : Option Reading) → read t ≡ o → carried-by o ≡ key-message n k → Read-as t n k
-      by-reading none q e = contra e
-      by-reading (some r) q e = by-parties r q (same (r .rcv) b) (same (r .org) a) refl refl e

@@ -13,12 +13,13 @@ use Rattle.partner.specs.Entry.{name-of, top-of}
 use Rattle.partner.specs.Changes.{loaded}
 use Rattle.partner.specs.Table.{Table}
 use Rattle.calls.specs.Calls.{Call, entry-of, run}
+use Rattle.calls.proofs.Claims as call
 use Rattle.line.specs.Line.{texts, counted, Allowed, entry-for, Fresh}
 use Rattle.line.proofs.CoreEnds
 use Rattle.line.proofs.CardCall.{Local, elsewhere, here, loads}
 use Rattle.line.proofs.CardRun.{run-local}
 use Rattle.line.proofs.CardEnds.{top-loaded, ends, carried-away, answer-away}
-use Rattle.line.proofs.CardEvent.{event-name, event-top, no-texts}
+use Rattle.line.proofs.CardTurn.{event-keeps, unsaid}
 use Rattle.line.proofs.CardLaws.{idle-text, made-of, took-of}
 
 -- ---- what holds of each card along a run
@@ -60,29 +61,25 @@ module _ (name : Text) (top : Top) where
 
   pub good-run : (own other : Text) (l : List Text) (t : Table) (c : Call) → Good own other t
       → Allowed name top other l c (run t c .outcome .answer) → Good own other (run t c .table)
-  good-run own other l t c g may = go (run-local name top own other l t c (g .identity) may)
+  good-run own other l t c g may = record {
+    identity = ap bare (call.claims .own-stays t c) ∙ g .identity;
+    entry = go (run-local name top own other l t c (g .identity) may);
+  }
     where
-      go : {k : List ℕ} → Local name top own other l t (run t c) k → Good own other (run t c .table)
-      go (elsewhere same kept away mute) = record {
-        identity = ap (λ (w : Text). bare w) same ∙ g .identity;
-        entry = ⊎-elim (λ (h : entry-of other t ≡ none). inl (kept ∙ h))
-            (λ (h : Known other t). inr (known-stays other t (run t c .table) kept h)) (g .entry);
-      }
-      go (here e x same found lawful them named ev now reply) =
+      go : {k : List ℕ} → Local name top own other l t (run t c) k
+          → (entry-of other (run t c .table) ≡ none) ⊎ Known other (run t c .table)
+      go (elsewhere kept away mute) =
+          ⊎-elim (λ (h : entry-of other t ≡ none). inl (kept ∙ h))
+          (λ (h : Known other t). inr (known-stays other t (run t c .table) kept h)) (g .entry)
+      go (here e x found lawful them named ev now reply) =
           let k = known-is other t e found (g .entry) in
-          record {
-            identity = ap (λ (w : Text). bare w) same ∙ g .identity;
-            entry = inr (record {
-              entry = x .entry;
-              there = now;
-              key = event-top ev ∙ k .0;
-              named = event-name ev ∙ k .1;
-            });
-          }
-      go (loads same absent now reply mute) = record {
-        identity = ap (λ (w : Text). bare w) same ∙ g .identity;
-        entry = inr (known-loaded other (run t c .table) now);
-      }
+          inr (record {
+            entry = x .entry;
+            there = now;
+            key = ap top-of (event-keeps ev .1) ∙ k .0;
+            named = ap (λ x. x .name) (event-keeps ev .1) ∙ k .1;
+          })
+      go (loads absent now reply mute) = inr (known-loaded other (run t c .table) now)
 
   -- the other's entry stays in the table
   pub there-still : (other : Text) (l : List Text) (t : Table) (c : Call)
@@ -92,9 +89,9 @@ module _ (name : Text) (top : Top) where
     where
       go : {k : List ℕ} → Local name top (bare (t .own)) other l t (run t c) k
           → (f : Entry) × (entry-of other (run t c .table) ≡ some f)
-      go (elsewhere same kept away mute) = (e, kept ∙ h)
-      go (here f x same found lawful them named ev now reply) = (x .entry, now)
-      go (loads same absent now reply mute) = (entry-for name top other, now)
+      go (elsewhere kept away mute) = (e, kept ∙ h)
+      go (here f x found lawful them named ev now reply) = (x .entry, now)
+      go (loads absent now reply mute) = (entry-for name top other, now)
 
   -- ---- the entry for the other, as loading makes it where there is none
 
@@ -116,24 +113,21 @@ module _ (a b name : Text) (top : Top) where
   unfolding seen
   makes l t c g may = go (run-local name top a b l t c (g .identity) may)
     where
-      still : CoreEnds.Lasts E (see name top b t .sending) (see name top b t .sending)
-      still = record { phase = refl; next = refl; outgoing = refl }
-
       go : {k : List ℕ} → Local name top a b l t (run t c) k
           → CoreEnds.Made E (see name top b t .sending) (see name top b (run t c .table) .sending) l (texts (run t c .outcome .reply))
-      go (elsewhere same kept away mute) =
+      go (elsewhere kept away mute) =
           rw kept
-          (CoreEnds.Made.quiet still (λ x h.
+          (CoreEnds.Made.quiet (CoreEnds.lasts E (see name top b t .sending)) (λ x h.
           let p = away x h in
           idle-text a b name top l x (rw (p .is) (carried-away a b name top (p .to) a (p .body) (p .not-them)))))
-      go {k} (here e x same found lawful them named ev now reply) =
+      go {k} (here e x found lawful them named ev now reply) =
           rw (found, now, reply)
           (let known = known-is name top b t e found (g .entry) in
           made-of a b name top l e them (known .0) (known .1) lawful named x k ev)
-      go (loads same absent now reply mute) =
+      go (loads absent now reply mute) =
           rw (absent, now)
-          (CoreEnds.Made.quiet (record { phase = refl; next = refl; outgoing = refl })
-          (λ x h. absurd (no-texts (run t c .outcome .reply) x reply h)))
+          (CoreEnds.Made.quiet (CoreEnds.lasts E (entry-for name top b .sending))
+          (λ x h. unsaid (run t c .outcome .reply) x reply h))
 
   pub takes : (l : List Text) (t : Table) (c : Call) → Good name top b a t
       → Allowed name top a l c (run t c .outcome .answer)
@@ -144,16 +138,16 @@ module _ (a b name : Text) (top : Top) where
     where
       go : {k : List ℕ} → Local name top b a l t (run t c) k
           → CoreEnds.Took E (see name top a t .receiving) (see name top a (run t c .table) .receiving) l (texts (run t c .outcome .reply)) k
-      go (elsewhere same kept away mute) =
+      go (elsewhere kept away mute) =
           rw kept
-          (CoreEnds.Took.quiet (record { expected = refl; incoming = refl; holding = λ h. h })
+          (CoreEnds.Took.quiet (CoreEnds.keeps E _)
           (λ x h.
           let p = away x h in
           rw (p .is) (answer-away a b name top (p .to) b (p .body) (p .not-them))) mute)
-      go {k} (here e x same found lawful them named ev now reply) =
+      go {k} (here e x found lawful them named ev now reply) =
           rw (found, now, reply)
           (took-of a b name top l e them (known-is name top a t e found (g .entry) .0) lawful named x k ev)
-      go (loads same absent now reply mute) =
+      go (loads absent now reply mute) =
           rw (absent, now)
-          (CoreEnds.Took.quiet (record { expected = refl; incoming = refl; holding = λ h. h })
-          (λ x h. absurd (no-texts (run t c .outcome .reply) x reply h)) mute)
+          (CoreEnds.Took.quiet (CoreEnds.keeps E _)
+          (λ x h. unsaid (run t c .outcome .reply) x reply h) mute)

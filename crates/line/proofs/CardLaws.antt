@@ -22,14 +22,14 @@ use Rattle.calls.specs.Receive.{rsm-body, rsm-text, brought}
 use Rattle.calls.specs.Build.{outgoing-of}
 use Rattle.calls.specs.Claims.{Carries}
 use Rattle.partner.proofs.Keeping.{risen-below}
+use Rattle.calls.proofs.Exchange.{keys-back}
 use Rattle.calls.proofs.Requests.{formed}
 use Rattle.calls.proofs.Written.{rsm-written, sent, sent-written}
 use Rattle.line.specs.Line.{_∈_, texts, entry-for}
 use Rattle.line.proofs.CoreEnds
 use Rattle.line.proofs.CoreEnds.{key-message, no-key-message, no-answer}
-use Rattle.line.proofs.CardTurn.{partner, Event, silent, speaks, takes, settles, fails, issues}
-use Rattle.line.proofs.CardEvent.{texts-in, no-texts}
-use Rattle.line.proofs.CardEnds.{top-loaded, brought-by-top, brought-sent, mac-under}
+use Rattle.line.proofs.CardTurn.{partner, Event, silent, speaks, takes, settles, fails, issues, texts-in, unsaid}
+use Rattle.line.proofs.CardEnds.{top-loaded, brought-by-top, mac-under}
 use Rattle.line.proofs.CardEnds.{carried-in, called-by, answer-in, ends, carried-at, answer-at}
 use Rattle.line.proofs.CardEnds.{carried-by, answer-by, carried-plain, answer-plain}
 
@@ -54,9 +54,6 @@ module _ (a b name : Text) (top : Top) (l : List Text) where
 
   module _ (e : Entry) (to-b : partner e ≡ b) (key : top-of (e .top) ≡ top) (called : e .top .name ≡ name-of name)
       (lawful : legal e ≡ true) (named : is-name a ≡ true) where
-    same-top : top-of (entry-for name top a .top) ≡ top-of (e .top)
-    same-top = top-loaded a name top ∙ sym key
-
     -- what is written to B and is no key message
     other-text : (body : Body) → carried-in a b name top body ≡ no-key-message → (reply : Text)
         → Carries a (partner e) body reply → (t : Text) → t ∈ texts reply → CoreEnds.Idle (ends a b name top) t
@@ -67,27 +64,26 @@ module _ (a b name : Text) (top : Top) (l : List Text) where
         → CoreEnds.Made (ends a b name top) (e .sending) (x .entry .sending) l (texts (x .outcome .reply))
     unfolding carried-in answer-in called-by accepted issued settled sent
     made-of x k (silent o r) =
-        CoreEnds.Made.quiet (record { phase = refl; next = refl; outgoing = refl })
-        (λ t h. absurd (no-texts (o .reply) t r h))
+        CoreEnds.Made.quiet (CoreEnds.lasts (ends a b name top) (e .sending)) (λ t h. unsaid (o .reply) t r h)
     made-of x k (speaks o body p r) =
-        CoreEnds.Made.quiet (record { phase = refl; next = refl; outgoing = refl })
+        CoreEnds.Made.quiet (CoreEnds.lasts (ends a b name top) (e .sending))
         (other-text body (carried-plain a b name top p) (o .reply) r)
     made-of x k (takes o u m h i late low r) =
-        CoreEnds.Made.quiet (record { phase = refl; next = refl; outgoing = refl })
+        CoreEnds.Made.quiet (CoreEnds.lasts (ends a b name top) (e .sending))
         (let w = rsm-written a e named lawful (brought e m) in other-text (rsm (w .0)) refl (o .reply) (rw r (w .1)))
     made-of x k (settles o u m h i waits same r) =
         let mac-is : m .mac ≡ mac-under a b name top (e .sending .outgoing) =
         same ∙ ap (λ (w : Text). mac (mac-key (keys-in (e .sending .outgoing))) w)
         (covered-rsm a b u m (subst (λ (w : Text). Carries w a (rsm m) u) to-b i)) in
         CoreEnds.Made.confirmed u (m .mac) h (rw (i, to-b, answer-at a b name top (rsm m)))
-        (λ t n c. rw (c, mac-is)) waits refl refl refl (λ t g. absurd (no-texts (o .reply) t r g))
+        (λ t n c. rw (c, mac-is)) waits refl refl refl (λ t h. unsaid (o .reply) t r h)
     made-of x k (fails o n up r) =
-        CoreEnds.Made.broken (λ h. omega arith) (λ h. omega arith) up (λ t h. absurd (no-texts (o .reply) t r h))
+        CoreEnds.Made.broken (λ h. omega arith) (λ h. omega arith) up (λ t h. unsaid (o .reply) t r h)
     made-of x k (issues o q odd fine small low r) =
         let is : Carries a b (ksm (sent a e q)) (o .reply) =
         rw (r, ← to-b) (sent-written a e named lawful q (formed q fine)) in
         let brings : brought (entry-for name top a) (sent a e q) ≡ outgoing-of q =
-        brought-by-top (entry-for name top a) e (sent a e q) same-top ∙ brought-sent a e q small in
+        keys-back a e (entry-for name top a) q (key ∙ sym (top-loaded a name top)) (small .first) (small .second) in
         CoreEnds.Made.built (o .reply) (texts-read (o .reply) _ is)
         (rw (is, carried-at a b name top (ksm (sent a e q)), brings))
         (record {
@@ -127,10 +123,9 @@ module _ (a b name : Text) (top : Top) (l : List Text) where
         → CoreEnds.Took (ends a b name top) (e .receiving) (x .entry .receiving) l (texts (x .outcome .reply)) k
     unfolding carried-in answer-in called-by accepted issued settled
     took-of x k (silent o r) =
-        CoreEnds.Took.quiet (record { expected = refl; incoming = refl; holding = λ h. h })
-        (λ t h. absurd (no-texts (o .reply) t r h)) refl
+        CoreEnds.Took.quiet (CoreEnds.keeps (ends a b name top) (e .receiving)) (λ t h. unsaid (o .reply) t r h) refl
     took-of x k (speaks o body p r) =
-        CoreEnds.Took.quiet (record { expected = refl; incoming = refl; holding = λ h. h })
+        CoreEnds.Took.quiet (CoreEnds.keeps (ends a b name top) (e .receiving))
         (no-rsm body (answer-plain a b name top p) (o .reply) r) refl
     took-of x k (takes o u m h i late low r) =
         let from-a : Carries a b (ksm m) u = subst (λ (w : Text). Carries w b (ksm m) u) to-a i in
@@ -144,11 +139,9 @@ module _ (a b name : Text) (top : Top) (l : List Text) where
         let w = rsm-written b e named lawful (brought e m) in
         rw (texts-in (o .reply) t g, r, w .1, to-a, answer-at a b name top (rsm (w .0)), rsm-mac (brought e m))) refl
     took-of x k (settles o u m h i waits same r) =
-        CoreEnds.Took.quiet (record { expected = refl; incoming = refl; holding = λ h. h })
-        (λ t h. absurd (no-texts (o .reply) t r h)) refl
+        CoreEnds.Took.quiet (CoreEnds.keeps (ends a b name top) (e .receiving)) (λ t h. unsaid (o .reply) t r h) refl
     took-of x k (fails o n up r) =
-        CoreEnds.Took.quiet (record { expected = refl; incoming = refl; holding = λ h. h })
-        (λ t h. absurd (no-texts (o .reply) t r h)) refl
+        CoreEnds.Took.quiet (CoreEnds.keeps (ends a b name top) (e .receiving)) (λ t h. unsaid (o .reply) t r h) refl
     took-of x k (issues o q odd fine small low r) =
-        CoreEnds.Took.quiet (record { expected = refl; incoming = refl; holding = λ h. h })
+        CoreEnds.Took.quiet (CoreEnds.keeps (ends a b name top) (e .receiving))
         (no-rsm (ksm (sent b e q)) refl (o .reply) (rw r (sent-written b e named lawful q (formed q fine)))) refl

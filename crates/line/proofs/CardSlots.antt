@@ -1,20 +1,19 @@
 -- Looking one partner up after a call about another, and after it was loaded.
 use mathlib.Core.Path.{_≡_, refl, sym, ap, _∙_}
-use mathlib.Core.Bool.{Bool, true, false, cond}
+use mathlib.Core.Bool.{true, false, cond}
 use mathlib.Core.List.{List, _∷_}
 use mathlib.Core.Logic.{_≢_}
 use mathlib.Core.Option.{Option, none, some}
-use Prim.Native.Nat.{ℕ}
-use native.Mathlib.Omega.{arith}
 use Rattle.octets.specs.Text.{Text, same, is-name}
 use Rattle.octets.proofs.Comparing.{differs-same, same-self as same-refl}
+use Rattle.csm.proofs.TextLaws.{none-some}
 use Rattle.partner.specs.declared.Entry.{Entry}
 use Rattle.partner.specs.Entry.{filled}
 use Rattle.partner.specs.Legal as partner
 use Rattle.partner.specs.Table.{Table, find}
 use Rattle.calls.specs.Calls.{entry-of}
 use Rattle.calls.specs.Claims.{Slot, kept, turned, placed, emptied, Slotwise, end, next}
-use Rattle.calls.proofs.Tests.{if-true, if-false}
+use Rattle.calls.proofs.Tests.{if-true, if-false, by-test}
 use Rattle.calls.proofs.Slots.{empty-is, empty-nobody}
 use Rattle.calls.proofs.Identities.{Places, here, later}
 
@@ -38,14 +37,8 @@ pub find-placed : (x : Entry) {l m : List Entry} → Places x l m → find (x .i
     → find (x .identity .bytes) m ≡ some x
 find-placed x (here e l q) h = rw (same-refl (x .identity .bytes))
 find-placed x (later e {l = l} {m = m} p) h =
-    go (same (e .identity .bytes) (x .identity .bytes)) refl h (find-placed x p)
-  where
-    go : (b : Bool) → same (e .identity .bytes) (x .identity .bytes) ≡ b
-        → cond b (some e) (find (x .identity .bytes) l) ≡ none
-        → (find (x .identity .bytes) l ≡ none → find (x .identity .bytes) m ≡ some x)
-        → cond b (some e) (find (x .identity .bytes) m) ≡ some x
-    go true q h ih = absurd (let z : _≡_ {A = ℕ} 0 1 = cc in omega arith)
-    go false q h ih = ih h
+    by-test (same (e .identity .bytes) (x .identity .bytes)) (λ q. absurd (none-some e (sym (rw q at h))))
+    (λ q. rw q (find-placed x p (rw q at h)))
 
 -- a partner's entry by its name
 pub entry-named : (id : Text) (t : Table) → is-name id ≡ true → entry-of id t ≡ find (filled id) (t .slots)

@@ -1,19 +1,17 @@
 -- All that a call does to one partner's entry: six events.
-use mathlib.Core.Path.{_≡_, refl, sym}
-use mathlib.Core.Bool.{Bool, true, false, cond, not, _&&_}
-use mathlib.Core.List.{List, [], _∷_}
-use mathlib.Core.Option.{Option, none, some}
-use Prim.Native.Nat.{ℕ, _≤_, _<_}
+use mathlib.Core.Path.{_≡_, refl}
+use mathlib.Core.Bool.{true, false}
+use mathlib.Core.List.{List, [], _∷_, List·Memᴰ·not-nil, List·Memᴰ·eq-of-singleton}
+use mathlib.Core.Option.{none}
+use Prim.Native.Nat.{ℕ, _≤_, _<_, max}
 use native.Mathlib.Omega.{arith}
 use lib.Dec.{eqb}
-use borrow.Author.Tests.{eqb-true, not-false, ltb-false}
-use Rattle.octets.specs.Text.{Text, same, is-name}
+use Rattle.octets.specs.Text.{Text, is-name}
 use Rattle.octets.specs.Part.{bare}
-use Rattle.octets.proofs.Comparing.{both as and-true}
 use Rattle.keying.specs.Mac.{mac-key, mac}
 use Rattle.csm.specs.Format.{value}
 use Rattle.csm.specs.Fields.{svr}
-use Rattle.csm.specs.Message.{Rsi, Ksm, Rsm, Esm, Body, rsi, ksm, rsm, esm, option, legal-body, print}
+use Rattle.csm.specs.Message.{Rsi, Ksm, Rsm, Esm, Body, rsi, ksm, rsm, esm, legal-body}
 use Rattle.csm.specs.Covered.{covered}
 use Rattle.partner.specs.declared.Entry.{Entry}
 use Rattle.partner.specs.Entry.{limit, waiting, broken, no-keys, keys-in}
@@ -21,18 +19,18 @@ use Rattle.partner.specs.Legal.{legal}
 use Rattle.partner.specs.Changes.{with-receiving, with-sending, accepted, issued, settled, given-up, failed}
 use Rattle.calls.specs.declared.Request.{Request}
 use Rattle.calls.specs.Words.{if_then_else_, any}
-use Rattle.calls.specs.Outcome.{I, K, M, O, Outcome, Told, failure, nothing, Turn, refused, done}
-use Rattle.calls.specs.Receive.{to-partner, esm-body, error, rsm-text, brought, faults, bad-format, bad-mac}
-use Rattle.calls.specs.Receive.{bad-count, counts-for, judged, receive-ksm, is-waiting, receive-rsm, after-esm}
-use Rattle.calls.specs.Receive.{receive-esm, receive}
+use Rattle.calls.specs.Outcome.{Outcome, Turn}
+use Rattle.calls.specs.Receive.{rsm-text, brought}
+use Rattle.calls.specs.Receive.{receive}
 use Rattle.calls.specs.Build.{used, not-odd, malformed, outgoing-of, ksm-text, build-ksm, build-rsi, give-up}
 use Rattle.calls.specs.Claims.{Carries}
-use Rattle.calls.proofs.Turns.{letters-legal, no-P, short-of-last}
-use Rattle.calls.proofs.Tests.{or-split, by-case}
+use Rattle.calls.proofs.Turns.{short-of-last, svr-legal, error-written, receive-step}
+use Rattle.calls.proofs.Turns.{Step, vain, errs, serves, accepts, confirms, breaks}
+use Rattle.calls.proofs.Tests.{by-case, by-part}
 use Rattle.partner.proofs.Keeping.{rules}
-use Rattle.calls.proofs.Readings.{esm-legal, ksm-parts}
-use Rattle.calls.proofs.Written.{to-them}
-use Rattle.line.specs.Line.{count-in, In-64-bits}
+use Rattle.calls.proofs.Written.{to-them, rsm-written, sent, sent-written}
+use Rattle.line.specs.Line.{count-in, In-64-bits, _∈_, texts}
+use Rattle.calls.proofs.Requests.{formed}
 
 -- the partner of an entry, bare
 abbrev pub partner : Entry → Text
@@ -73,76 +71,23 @@ pub data Event (us : Text) (e : Entry) (Heard : Text → Type 0) : Turn → List
 -- ---- the steps are those events
 
 module _ (us : Text) (e : Entry) (Heard : Text → Type 0) (named : is-name us ≡ true) (lawful : legal e ≡ true) where
-  -- 4
-  erring : (body : Body) (letters : ℕ) (c : Option (ℕ × ℕ)) → legal-body (esm-body letters c) ≡ true
-      → Event us e Heard (error us e letters c) (counts body (error us e letters c))
-  unfolding if_then_else_
-  erring body letters none l = speaks _ _ (fault _) (to-them us e named lawful (esm-body letters none) refl l)
-  erring body letters (some (x, y)) l =
-      speaks _ _ (fault _) (to-them us e named lawful (esm-body letters (some (x, y))) refl l)
-
   module _ (text : Text) (heard : Heard text) where
-    judged-event : (m : Ksm) → Carries (partner e) us (ksm m) text → legal-body (ksm m) ≡ true
-        → Event us e Heard (judged us e text m (brought e m)) (counts (ksm m) (judged us e text m (brought e m)))
-    unfolding judged faults bad-count count-in if_then_else_
-    judged-event m is l =
-        by-case (λ (x : Turn). Event us e Heard x (counts (ksm m) x)) _ _ _
-        (λ q. erring (ksm m) _ (counts-for e m)
-        (letters-legal (bad-format (brought e m) m) (bad-mac (brought e m) text (m .mac))
-        (bad-count (e .receiving .expected) (m .ctp)) (e .receiving .expected) (m .ctp) (rules e lawful .expected-right)
-        (ksm-parts m l .count) q))
-        (λ q.
-        let p = no-P (bad-format (brought e m) m) (bad-mac (brought e m) text (m .mac)) _ (not-false _ q) in
-        let k = or-split _ _ p in
-        takes _ text m heard is (ltb-false (m .ctp) (e .receiving .expected) (k .0))
-        (short-of-last (m .ctp) (ksm-parts m l .count) (k .1)) refl)
-
-    ksm-event : (m : Ksm) → Carries (partner e) us (ksm m) text → legal-body (ksm m) ≡ true
-        → Event us e Heard (receive-ksm us e text m) (counts (ksm m) (receive-ksm us e text m))
-    unfolding receive-ksm
-    ksm-event m is l =
-        by-case (λ (x : Turn). Event us e Heard x (counts (ksm m) x)) _ _ _
-        (λ q. erring (ksm m) I none (esm-legal I refl refl))
-        (λ q.
-        by-case (λ (x : Turn). Event us e Heard x (counts (ksm m) x)) _ _ _
-        (λ p. erring (ksm m) K none (esm-legal K refl refl)) (λ p. judged-event m is l))
-
-    rsm-event : (m : Rsm) → Carries (partner e) us (rsm m) text
-        → Event us e Heard (receive-rsm us e text m) (counts (rsm m) (receive-rsm us e text m))
-    unfolding receive-rsm is-waiting bad-mac count-in if_then_else_
-    rsm-event m is =
-        by-case (λ (x : Turn). Event us e Heard x (counts (rsm m) x)) (not (is-waiting (e .sending))) (refused e 5) _
-        (λ q. silent _ refl)
-        (λ q.
-        by-case (λ (x : Turn). Event us e Heard x (counts (rsm m) x)) (bad-mac (e .sending .outgoing) text (m .mac))
-        (error us e M none) _ (λ p. erring (rsm m) M none (esm-legal M refl refl))
-        (λ p. settles _ text m heard is (eqb-true (e .sending .phase) waiting (not-false _ q))
-        (sym (eqb-true _ (m .mac) (not-false _ p))) refl))
-
+    step-event : {b : Body} {r : Turn} → Step us e text b r → Carries (partner e) us b text
+        → Event us e Heard r (counts b r)
+    unfolding count-in if_then_else_ given-up failed
+    step-event (vain b) is = silent _ refl
+    step-event (errs b n c k l) is = speaks _ _ (fault _) (error-written us e named lawful n c l)
+    step-event (serves m o) is = silent _ refl
+    step-event (accepts m o late low) is = takes _ text m heard is late low refl
+    step-event (confirms m o w s) is = settles _ text m heard is w s refl
     -- by its CTP, if it has one
-    after-event : (ctp ctr : Option ℕ) (erf : ℕ) (edc : Option ℕ) (o : Told)
-        → Event us e Heard (done (with-sending e (after-esm (e .sending) (record { ctp = ctp; ctr = ctr; erf = erf; edc = edc }))) [] o) []
-    unfolding given-up failed
-    after-event none ctr erf edc o =
-        fails _ (after-esm (e .sending) (record { ctp = none; ctr = ctr; erf = erf; edc = edc }) .next) (omega arith) refl
-    after-event (some x) ctr erf edc o =
-        fails _ (after-esm (e .sending) (record { ctp = some x; ctr = ctr; erf = erf; edc = edc }) .next) (omega arith) refl
-
-    esm-event : (m : Esm) → Event us e Heard (receive-esm e m) (counts (esm m) (receive-esm e m))
-    unfolding receive-esm count-in if_then_else_
-    esm-event m =
-        by-case (λ (x : Turn). Event us e Heard x (counts (esm m) x)) (not (is-waiting (e .sending))) (refused e 5)
-        (done (with-sending e (after-esm (e .sending) m)) [] (failure (m .erf))) (λ q. silent _ refl)
-        (λ q. after-event (m .ctp) (m .ctr) (m .erf) (m .edc) (failure (m .erf)))
+    step-event (breaks m o w) is =
+        by-part (m .ctp) (λ p. rw p (fails _ (e .sending .next) (omega arith) refl))
+        (λ x p. rw p (fails _ (max (e .sending .next) x) (omega arith) refl))
 
     pub receive-event : (body : Body) → Carries (partner e) us body text → legal-body body ≡ true
         → Event us e Heard (receive us e text body) (counts body (receive us e text body))
-    unfolding receive count-in if_then_else_
-    receive-event (rsi m) is l = silent _ refl
-    receive-event (ksm m) is l = ksm-event m is l
-    receive-event (rsm m) is l = rsm-event m is
-    receive-event (esm m) is l = esm-event m
-    receive-event (option c w) is l = erring (option c w) O none (esm-legal O refl refl)
+    receive-event body is l = step-event (receive-step us e text lawful body l) is
 
   pub build-ksm-event : (q : Request) → In-64-bits q → Event us e Heard (build-ksm us e q) []
   unfolding build-ksm
@@ -162,25 +107,53 @@ module _ (us : Text) (e : Entry) (Heard : Text → Type 0) (named : is-name us �
   -- the RSI that is built is of a legal SVR
   pub build-rsi-event : (contents : Text) → Event us e Heard (build-rsi us e contents) []
   unfolding build-rsi
-  build-rsi-event contents = go (value svr contents) refl
-    where
-      judge : (b : Bool) → (svr .legal (svr .guess contents) && b ≡ true → svr .legal (svr .guess contents) ≡ true)
-      judge b h = and-true (svr .legal (svr .guess contents)) b h .0
+  build-rsi-event contents =
+      by-part (value svr contents) (λ q. rw (q, build-rsi) (silent _ refl)) (λ s q.
+      rw (q, build-rsi) (speaks _ _ (service _)
+      (to-them us e named lawful (rsi (record { svr = s; edc = none })) refl (rw (svr-legal contents s q)))))
 
-      legal-of : (b : Bool) (x s : ℕ) → (b ≡ true → svr .legal x ≡ true) → cond b (some x) none ≡ some s
-          → svr .legal s ≡ true
-      legal-of true x s f h = let p : x ≡ s = cc in rw (← p) (f refl)
-      legal-of false x s f h = absurd (let z : _≡_ {A = ℕ} 0 1 = cc in omega arith)
+-- ---- what every event keeps of an entry, and to whom it writes
 
-      go : (o : Option ℕ) → value svr contents ≡ o
-          → Event us e Heard
-          (elim o [
-            | none ↦ refused e 12
-            | some s ↦ done e (print (to-partner us e (rsi (record { svr = s; edc = none })))) nothing
-          ]) []
-      go none h = silent _ refl
-      go (some s) h =
-          let l : svr .legal s ≡ true =
-          legal-of (svr .legal (svr .guess contents) && same (svr .text (svr .guess contents)) contents)
-          (svr .guess contents) s (judge (same (svr .text (svr .guess contents)) contents)) h in
-          speaks _ _ (service _) (to-them us e named lawful (rsi (record { svr = s; edc = none })) refl (rw l))
+-- what is among the texts of a reply is the reply
+pub texts-in : (reply x : Text) → x ∈ texts reply → x ≡ reply
+unfolding texts
+texts-in [] x h = absurd (List·Memᴰ·not-nil h)
+texts-in (y ∷ w) x h = List·Memᴰ·eq-of-singleton h
+
+-- nothing is among the texts of no reply
+pub unsaid : {A : Type 0} (reply x : Text) → reply ≡ [] → x ∈ texts reply → A
+unfolding texts
+unsaid reply x e h = absurd (List·Memᴰ·not-nil (rw e at h))
+
+module _ {us : Text} {e : Entry} {H : Text → Type 0} where
+  -- the partner and the top key with its name stay
+  pub event-keeps : {x : Turn} {k : List ℕ} → Event us e H x k
+      → (x .entry .identity ≡ e .identity) × (x .entry .top ≡ e .top)
+  event-keeps (silent o r) = (refl, refl)
+  event-keeps (speaks o b p r) = (refl, refl)
+  event-keeps (takes o t m h i l u r) = (refl, refl)
+  event-keeps (settles o t m h i w c r) = (refl, refl)
+  event-keeps (fails o n l r) = (refl, refl)
+  event-keeps (issues o q p f s l r) = (refl, refl)
+
+  -- it writes to the partner, as us
+  pub event-to : {x : Turn} {k : List ℕ} → is-name us ≡ true → legal e ≡ true → Event us e H x k
+      → (t : Text) → t ∈ texts (x .outcome .reply) → (b : Body) × Carries us (partner e) b t
+  event-to n l (silent o r) t h = unsaid (o .reply) t r h
+  event-to n l (speaks o b p r) t h = (b, rw (texts-in (o .reply) t h) r)
+  event-to n l (takes o u m g i a c r) t h =
+      let w = rsm-written us e n l (brought e m) in (rsm (w .0), rw (texts-in (o .reply) t h, r) (w .1))
+  event-to n l (settles o u m g i w c r) t h = unsaid (o .reply) t r h
+  event-to n l (fails o m a r) t h = unsaid (o .reply) t r h
+  event-to n l (issues o q p f s a r) t h =
+      (ksm (sent us e q), rw (texts-in (o .reply) t h, r) (sent-written us e n l q (formed q f)))
+
+  -- heard in one way is heard in another
+  pub event-as : {G : Text → Type 0} {x : Turn} {k : List ℕ} → ((t : Text) → H t → G t) → Event us e H x k
+      → Event us e G x k
+  event-as f (silent o r) = silent o r
+  event-as f (speaks o b p r) = speaks o b p r
+  event-as f (takes o t m h i l u r) = takes o t m (f t h) i l u r
+  event-as f (settles o t m h i w c r) = settles o t m (f t h) i w c r
+  event-as f (fails o n l r) = fails o n l r
+  event-as f (issues o q p g s l r) = issues o q p g s l r

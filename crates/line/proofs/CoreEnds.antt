@@ -1,6 +1,6 @@
 -- What the theorem needs to know of the two ends, whatever the cards are: what a text is on its way, what A's sending
 -- unit and B's receiving unit hold, and what a call may do at either end. It is wide enough for levels, closings and answers that are given again.
-use mathlib.Core.Path.{_≡_}
+use mathlib.Core.Path.{_≡_, refl}
 use mathlib.Core.List.{List, [], _∷_}
 use mathlib.Core.Logic.{_≢_}
 use Prim.Native.Nat.{ℕ, suc, _≤_, _<_}
@@ -75,6 +75,9 @@ module _ (E : Ends) where
     pub next : next y ≡ next x
     pub outgoing : outgoing y ≡ outgoing x
 
+  pub lasts : (x : Sending) → Lasts x x
+  lasts x = record { phase = refl; next = refl; outgoing = refl }
+
   pub data Made (x y : Sending) (heard said : List Text) : Type 0 where
     -- nothing at this level
     quiet : Lasts x y → ((t : Text) → t ∈ said → Idle t) → Made x y heard said
@@ -98,6 +101,9 @@ module _ (E : Ends) where
     pub expected : expected y ≡ expected x
     pub incoming : incoming y ≡ incoming x
     pub holding : holding y → holding x
+
+  pub keeps : (x : Receiving) → Keeps x x
+  keeps x = record { expected = refl; incoming = refl; holding = λ h. h }
 
   pub data Took (x y : Receiving) (heard said : List Text) (taken : List ℕ) : Type 0 where
     quiet : Keeps x y → ((t : Text) → t ∈ said → answers t ≡ no-answer) → taken ≡ [] → Took x y heard said taken

@@ -1,5 +1,5 @@
 -- What holds along a run of the two ends, and that every call at A's end keeps it.
-use mathlib.Core.Path.{_≡_, refl, sym, ap, _∙_}
+use mathlib.Core.Path.{_≡_, refl, sym, _∙_}
 use mathlib.Core.List.{List, [], _∷_, _++_, List·Memᴰ·head, List·Memᴰ·tail, List·Memᴰ·append-cases}
 use mathlib.Core.List.{List·Memᴰ·cases-cons, List·Memᴰ·eq-of-singleton, Memᴰ·append-right}
 use mathlib.Core.Logic.{_⊎_, inl, inr, ⊎-elim}
@@ -9,17 +9,29 @@ use Rattle.line.specs.Line.{_∈_}
 use Rattle.line.proofs.CoreEnds
 use Rattle.line.proofs.CoreEnds.{key-message, no-key-message, answer, Ends, Pair}
 
+-- what is among a text and older ones
+or-old : {A T : Type 0} {t u : T} {l : List T} → t ∈ (u ∷ l) → (t ≡ u → A) → (t ∈ l → A) → A
+or-old {t = t} {u} {l} h f g = ⊎-elim (λ (p : t ≡ u). f p) (λ (p : t ∈ l). g p) (List·Memᴰ·cases-cons h)
+
 module _ (E : Ends) where
   open Ends E using (Text, Keys, Sending, Receiving, phase, next, outgoing, expected, incoming, holding)
   open Ends E using (carries, calls, closes, answers, Sound)
 
-  -- the newest key message stands for the outgoing keys
-  pub record Standing (x : Sending) (l : List Text) : Type 0 where
+  -- a key message that carries these keys, with the count before this one
+  pub record Newest (l : List Text) (k : Keys) (next : ℕ) : Type 0 where
     pub text : Text
     pub number : ℕ
     pub there : text ∈ l
-    pub is : carries text ≡ key-message number (outgoing x)
-    pub newest : suc number ≡ next x
+    pub is : carries text ≡ key-message number k
+    pub newest : suc number ≡ next
+
+  -- the newest key message stands for the outgoing keys
+  abbrev pub Standing : Sending → List Text → Type 0
+  Standing x l = Newest l (outgoing x) (next x)
+
+  -- the key message that the incoming keys came in
+  abbrev pub Source : List Text → Receiving → Type 0
+  Source l y = Newest l (incoming y) (expected y)
 
   pub record Closing (l : List Text) (k : Keys) (m : ℕ) : Type 0 where
     pub dsm : Text
@@ -38,14 +50,6 @@ module _ (E : Ends) where
     pub there : text ∈ l
     pub why : (calls text ≡ answer m) ⊎ Shut l text m
     pub old : (n : ℕ) (k : Keys) → carries text ≡ key-message n k → n < e
-
-  -- the key message that the incoming keys came in
-  pub record Source (l : List Text) (y : Receiving) : Type 0 where
-    pub text : Text
-    pub number : ℕ
-    pub there : text ∈ l
-    pub is : carries text ≡ key-message number (incoming y)
-    pub newest : suc number ≡ expected y
 
   -- the key message that a closing closes; it no longer stands
   pub record Ended (x : Sending) (l : List Text) (d : Text) : Type 0 where
@@ -103,13 +107,26 @@ module _ (E : Ends) where
   up-held said l k i h =
       ⊎-elim (λ (p : k ≡ i). inl p) (λ (p : (m : ℕ) × Closing l k m). inr (p .0, up-closing said l k (p .0) (p .1))) h
 
-  up-source : (said l : List Text) (y : Receiving) → Source l y → Source (said ++ l) y
-  up-source said l y p = record {
+  up-newest : (said l : List Text) (k : Keys) (n : ℕ) → Newest l k n → Newest (said ++ l) k n
+  up-newest said l k n p = record {
     text = p .text;
     number = p .number;
     there = Memᴰ·append-right said (p .there);
     is = p .is;
     newest = p .newest;
+  }
+
+  up-ended : (said l : List Text) (x y : Sending) (d : Text) (p : Ended x l d)
+      → (1 ≤ phase y → phase y ≤ 2 → suc (p .number) < next y) → Ended y (said ++ l) d
+  up-ended said l x y d p over = record {
+    text = p .text;
+    number = p .number;
+    keys = p .keys;
+    mac = p .mac;
+    there = Memᴰ·append-right said (p .there);
+    is = p .is;
+    by = p .by;
+    over = over;
   }
 
   older : (said l : List Text) → ((t : Text) → t ∈ said → carries t ≡ no-key-message)
@@ -134,12 +151,17 @@ module _ (E : Ends) where
     below = λ t n k h e. let g : n < next (s .a) = i .below t n k (old t n k h e) e in omega arith;
     once = λ t u n j k ht hu et eu. i .once t u n j k (old t n j ht et) (old u n k hu eu) et eu;
     bound = omega (arith, i .bound);
-    standing = λ l g. stay (stands l g);
+    standing = λ l g.
+        let q = stands l g in
+        rw (q .2, q .3) (up-newest said (s .from-a) (outgoing (s .a)) (next (s .a)) (i .standing (q .0) (q .1)));
     answered = λ r m h e. up-root said (s .from-a) (expected (s .b)) m (i .answered r m h e);
     held = λ t n k h e g. up-held said (s .from-a) k (incoming (s .b)) (i .held t n k (old t n k h e) e g);
-    source = λ h. up-source said (s .from-a) (s .b) (i .source h);
+    source = λ h. up-newest said (s .from-a) (incoming (s .b)) (expected (s .b)) (i .source h);
     ended = λ d k m h c.
-        ⊎-elim (λ (g : d ∈ said). ends d k m g c) (λ (g : d ∈ s .from-a). end d (i .ended d k m g c))
+        ⊎-elim (λ (g : d ∈ said). ends d k m g c)
+        (λ (g : d ∈ s .from-a).
+        let p = i .ended d k m g c in
+        up-ended said (s .from-a) (s .a) y d p (λ l g. let q = stands l g in omega (arith, p .over (q .0) (q .1))))
         (List·Memᴰ·append-cases said h);
     sound = λ t n k h e. i .sound t n k (old t n k h e) e;
     agreed = agree;
@@ -149,32 +171,6 @@ module _ (E : Ends) where
       old : (t : Text) (n : ℕ) (k : Keys) → t ∈ (said ++ s .from-a) → carries t ≡ key-message n k → t ∈ s .from-a
       old = older said (s .from-a) mute
 
-      stay : (1 ≤ phase (s .a)) × (phase (s .a) ≤ 2) × (next y ≡ next (s .a)) × (outgoing y ≡ outgoing (s .a))
-          → Standing y (said ++ s .from-a)
-      stay q =
-          let p = i .standing (q .0) (q .1) in
-          record {
-            text = p .text;
-            number = p .number;
-            there = Memᴰ·append-right said (p .there);
-            is = p .is ∙ ap (key-message (p .number)) (sym (q .3));
-            newest = p .newest ∙ sym (q .2);
-          }
-
-      end : (d : Text) → Ended (s .a) (s .from-a) d → Ended y (said ++ s .from-a) d
-      end d p = record {
-        text = p .text;
-        number = p .number;
-        keys = p .keys;
-        mac = p .mac;
-        there = Memᴰ·append-right said (p .there);
-        is = p .is;
-        by = p .by;
-        over = λ l g.
-            let q = stands l g in
-            let w : suc (p .number) < next (s .a) = p .over (q .0) (q .1) in omega arith;
-      }
-
   -- ---- a key message is built
 
   built-a : (s : Pair Sending Receiving Text) (y : Sending) (t₀ : Text) → Along s
@@ -183,60 +179,38 @@ module _ (E : Ends) where
       → next y ≡ suc (next (s .a)) → Along (next-a s y (t₀ ∷ []))
   built-a s y t₀ i is fine plain ph nx = record {
     below = λ t n k h e.
-        ⊎-elim (λ (g : t ≡ t₀). let q : n ≡ next (s .a) = cc in omega arith)
-        (λ (g : t ∈ s .from-a). omega (arith, i .below t n k g e)) (cases t h);
+        or-old h (λ g. let q : n ≡ next (s .a) = cc in omega arith) (λ g. omega (arith, i .below t n k g e));
     once = λ t u n j k ht hu et eu.
-        ⊎-elim
-        (λ (g : t ≡ t₀).
-        ⊎-elim (λ (f : u ≡ t₀). cc)
-        (λ (f : u ∈ s .from-a).
-        let p : n < next (s .a) = i .below u n k f eu in
-        let q : n ≡ next (s .a) = cc in absurd (omega arith))
-        (cases u hu))
-        (λ (g : t ∈ s .from-a).
-        ⊎-elim
-        (λ (f : u ≡ t₀).
-        let p : n < next (s .a) = i .below t n j g et in
-        let q : n ≡ next (s .a) = cc in absurd (omega arith))
-        (λ (f : u ∈ s .from-a). i .once t u n j k g f et eu) (cases u hu))
-        (cases t ht);
+        or-old ht
+        (λ g. or-old hu (λ f. cc) (λ f.
+        let q : n ≡ next (s .a) = cc in absurd (omega (arith, i .below u n k f eu))))
+        (λ g. or-old hu (λ f.
+        let q : n ≡ next (s .a) = cc in absurd (omega (arith, i .below t n j g et)))
+        (λ f. i .once t u n j k g f et eu));
     bound = omega (arith, i .bound);
     standing = λ _ _.
         record { text = t₀; number = next (s .a); there = List·Memᴰ·head refl; is = is; newest = sym nx };
     answered = λ r m h e. up-root (t₀ ∷ []) (s .from-a) (expected (s .b)) m (i .answered r m h e);
     held = λ t n k h e g.
-        ⊎-elim (λ (f : t ≡ t₀). let q : n ≡ next (s .a) = cc in absurd (omega (arith, i .bound)))
-        (λ (f : t ∈ s .from-a). up-held (t₀ ∷ []) (s .from-a) k (incoming (s .b)) (i .held t n k f e g)) (cases t h);
-    source = λ h. up-source (t₀ ∷ []) (s .from-a) (s .b) (i .source h);
+        or-old h (λ f. let q : n ≡ next (s .a) = cc in absurd (omega (arith, i .bound)))
+        (λ f. up-held (t₀ ∷ []) (s .from-a) k (incoming (s .b)) (i .held t n k f e g));
+    source = λ h. up-newest (t₀ ∷ []) (s .from-a) (incoming (s .b)) (expected (s .b)) (i .source h);
     ended = λ d k m h c.
-        ⊎-elim (λ (f : d ≡ t₀). absurd (plain k m (rw f at c)))
-        (λ (f : d ∈ s .from-a). end d (i .ended d k m f c)) (cases d h);
+        or-old h (λ f. absurd (plain k m (rw f at c)))
+        (λ f.
+        let p = i .ended d k m f c in
+        up-ended (t₀ ∷ []) (s .from-a) (s .a) y d p
+        (λ l g. omega (arith, i .below (p .text) (p .number) (p .keys) (p .there) (p .is))));
     sound = λ t n k h e.
-        ⊎-elim
-        (λ (f : t ≡ t₀).
+        or-old h
+        (λ f.
         let q : n ≡ next (s .a) = cc in
         let p : k ≡ outgoing y = cc in rw (f, q, p) fine)
-        (λ (f : t ∈ s .from-a). i .sound t n k f e) (cases t h);
+        (λ f. i .sound t n k f e);
     agreed = λ e. absurd (omega arith);
     taken = λ t n k h e g.
-        ⊎-elim (λ (f : t ≡ t₀). let q : n ≡ next (s .a) = cc in absurd (omega (arith, i .bound)))
-        (λ (f : t ∈ s .from-a). i .taken t n k f e g) (cases t h);
+        or-old h (λ f. let q : n ≡ next (s .a) = cc in absurd (omega (arith, i .bound))) (λ f. i .taken t n k f e g);
   }
-    where
-      cases : (t : Text) → t ∈ (t₀ ∷ s .from-a) → (t ≡ t₀) ⊎ (t ∈ s .from-a)
-      cases t h = List·Memᴰ·cases-cons h
-
-      end : (d : Text) → Ended (s .a) (s .from-a) d → Ended y (t₀ ∷ s .from-a) d
-      end d p = record {
-        text = p .text;
-        number = p .number;
-        keys = p .keys;
-        mac = p .mac;
-        there = List·Memᴰ·tail (p .there);
-        is = p .is;
-        by = p .by;
-        over = λ l g. omega (arith, i .below (p .text) (p .number) (p .keys) (p .there) (p .is));
-      }
 
   -- ---- the answer that confirms: B took the standing key message
 

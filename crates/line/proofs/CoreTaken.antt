@@ -31,8 +31,8 @@ module _ (E : Ends) where
     bound = omega (arith, i .bound);
     standing = i .standing;
     answered = λ r m h e.
-        ⊎-elim (λ (g : r ∈ said). at-y m (new r m g e)) (λ (g : r ∈ s .from-b). at-y m (i .answered r m g e))
-        (List·Memᴰ·append-cases said h);
+        rw ex (⊎-elim (λ (g : r ∈ said). new r m g e) (λ (g : r ∈ s .from-b). i .answered r m g e)
+        (List·Memᴰ·append-cases said h));
     held = λ t n k h e g. holds t n k h e (g ∙ ex);
     source = src;
     ended = i .ended;
@@ -40,14 +40,6 @@ module _ (E : Ends) where
     agreed = λ e. ex ∙ i .agreed e;
     taken = λ t n k h e g. i .taken t n k h e (g ∙ ex);
   }
-    where
-      at-y : (m : ℕ) → CoreSent.Root E (s .from-a) (expected (s .b)) m → CoreSent.Root E (s .from-a) (expected y) m
-      at-y m p = record {
-        text = p .text;
-        there = p .there;
-        why = p .why;
-        old = λ n k e. omega (arith, p .old n k e);
-      }
 
   -- the receiving side stays
   keeps-b : (s : Pair Sending Receiving Text) (y : Receiving) (said : List Text) → CoreSent.Along E s → CoreEnds.Keeps E (s .b) y
@@ -58,16 +50,7 @@ module _ (E : Ends) where
       (λ t n j h e g.
       ⊎-elim (λ (p : j ≡ incoming (s .b)). inl (p ∙ sym (k .incoming)))
       (λ (p : (m : ℕ) × CoreSent.Closing E (s .from-a) j m). inr p) (i .held t n j h e g))
-      (λ h. from (i .source (k .holding h))) new
-    where
-      from : CoreSent.Source E (s .from-a) (s .b) → CoreSent.Source E (s .from-a) y
-      from p = record {
-        text = p .text;
-        number = p .number;
-        there = p .there;
-        is = p .is ∙ ap (key-message (p .number)) (sym (k .incoming));
-        newest = p .newest ∙ sym (k .expected);
-      }
+      (λ h. rw (k .incoming, k .expected) (i .source (k .holding h))) new
 
   -- a key message is taken
   installed-b : (s : Pair Sending Receiving Text) (y : Receiving) (said : List Text) → CoreSent.Along E s → (t : Text) (n m : ℕ)

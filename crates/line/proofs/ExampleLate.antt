@@ -17,7 +17,7 @@ use Rattle.calls.specs.Words.{if_then_else_}
 use Rattle.calls.specs.Outcome.{P, success, complaint, nothing, keys, confirmation, failure}
 use Rattle.calls.specs.Receive as by-class
 use Rattle.calls.specs.Calls.{receive, about, build-ksm, After, entry-of, run}
-use Rattle.line.specs.Line.{_∈_, State, texts, count-in, count-from, counted, Allowed, entry-for}
+use Rattle.line.specs.Line.{_∈_, State, texts, count-in, count-from, counted, Allowed}
 use Rattle.line.specs.Line.{a-to-b, called-for, Distinct, Agreed, begin, Late-error}
 use Rattle.line.specs.Worked.{MILL, HARBOR, key-name, pair, first-ksm, third-ksm}
 use Rattle.line.proofs.CoreEnds.{Answer, answer}

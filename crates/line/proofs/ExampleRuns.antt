@@ -13,7 +13,7 @@ use Rattle.partner.specs.Entry.{waiting, confirmed, broken, no-keys}
 use Rattle.partner.specs.Table.{Table}
 use Rattle.calls.specs.Words.{if_then_else_}
 use Rattle.calls.specs.Calls.{Call, receive, about, build-ksm, give-up, load, remove, After, entry-of, run, start}
-use Rattle.line.specs.Line.{State, texts, count-in, count-from, counted, In-64-bits, Allowed}
+use Rattle.line.specs.Line.{State, texts, count-in, count-from, counted, Allowed}
 use Rattle.line.specs.Line.{Reach, begin, step-a, step-b, Afresh, Distinct, Agreed}
 use Rattle.line.specs.Worked.{MILL, HARBOR, key-name, pair, other-name, other-key, mistyped}
 use Rattle.line.specs.Worked.{first-ksm, second-ksm}
@@ -33,18 +33,11 @@ state a b from-a from-b taken = record { a = a; b = b; from-a = from-a; from-b =
 abbrev pub both-started : State
 both-started = state (started MILL) (started HARBOR) [] [] []
 
-starts-mill : start MILL ≡ some (started MILL)
-unfolding start if_then_else_
-starts-mill = refl
-
-starts-harbor : start HARBOR ≡ some (started HARBOR)
-unfolding start if_then_else_
-starts-harbor = refl
-
 pub afresh : Afresh MILL HARBOR key-name pair both-started
+unfolding start if_then_else_
 afresh = record {
-  card-a = fresh.started key-name pair MILL HARBOR (started MILL) starts-mill;
-  card-b = fresh.started key-name pair HARBOR MILL (started HARBOR) starts-harbor;
+  card-a = fresh.started key-name pair MILL HARBOR (started MILL) refl;
+  card-b = fresh.started key-name pair HARBOR MILL (started HARBOR) refl;
   a-silent = refl;
   b-silent = refl;
   none-accepted = refl;
@@ -77,12 +70,6 @@ at-harbor {s₀} s c y e may r =
 
 -- ---- both load, MILL not without mistakes; MILL builds, HARBOR takes and answers
 
-first-small : In-64-bits first-request
-first-small = record { first = omega arith; second = omega arith }
-
-second-small : In-64-bits second-request
-second-small = record { first = omega arith; second = omega arith }
-
 count-of-first : count-from MILL (read first-ksm) ≡ 1 ∷ []
 unfolding computes count-from count-in
 count-of-first = refl
@@ -110,7 +97,7 @@ built-run : Run both-started (state (mill 2 waiting first-keys) (harbor 1 no-key
 unfolding texts Allowed
 built-run =
     at-mill (state (mill 1 0 no-keys) (harbor 1 no-keys) [] [] []) (about HARBOR (build-ksm 256 first-request)) _ mill-builds
-    first-small loaded-run
+    (record { first = omega arith; second = omega arith }) loaded-run
 
 pub answered-run : Run both-started answered
 unfolding texts counted Allowed if_then_else_
@@ -158,7 +145,8 @@ misled-run =
     at-mill (state (mill 3 waiting second-keys) (harbor 2 first-keys) two-sent (answering-rsm ∷ []) (1 ∷ []))
     (receive 256 answering-rsm) _ mill-confirms-others (λ r e o. List·Memᴰ·head refl)
     (at-mill (state (mill 2 broken no-keys) (harbor 2 first-keys) (first-ksm ∷ []) (answering-rsm ∷ []) (1 ∷ []))
-    (about HARBOR (build-ksm 256 second-request)) _ mill-builds-again second-small
+    (about HARBOR (build-ksm 256 second-request)) _ mill-builds-again
+    (record { first = omega arith; second = omega arith })
     (at-mill answered (about HARBOR give-up) _ mill-gives-up tt answered-run))
 
 pub misled-confirmed : (entry-of HARBOR (misled .a) ≡ some (mill-entry 3 confirmed second-keys))

@@ -5,7 +5,6 @@ pub mod Core
 pub mod CoreRising
 pub mod CardSlots
 pub mod CardTurn
-pub mod CardEvent
 pub mod CardCall
 pub mod CardRun
 pub mod CardEnds

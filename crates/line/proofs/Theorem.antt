@@ -19,7 +19,7 @@ use Rattle.partner.specs.Changes.{loaded}
 use Rattle.partner.specs.Table.{Table}
 use Rattle.calls.specs.Calls.{receive, load, entry-of, run}
 use Rattle.calls.proofs.Readings.{ksm-parts}
-use Rattle.line.specs.Line.{_∈_, State, texts, counted, Rising, Allowed, entry-for, Reach, begin}
+use Rattle.line.specs.Line.{_∈_, State, texts, counted, Allowed, entry-for, Reach, begin}
 use Rattle.line.specs.Line.{step-a, step-b, Afresh, a-to-b, called-for, Distinct, Agreed, Late-error, Claims}
 use Rattle.line.proofs.CoreEnds
 use Rattle.line.proofs.CoreEnds.{Carried, key-message, no-key-message, answer, Pair}
@@ -189,9 +189,6 @@ module _ (a b name : Text) (top : Top) where
       there-at-b (entry-of a (s .b)) (m .number) low (m .b-count) in
       agreed s for-b (there .0) mine (seen-is a (s .b) (there .0) (there .1)) (there .1) m k
 
-  pub rise : {s₀ s : State} → Afresh a b name top s₀ → Reach a b name top s₀ s → Rising (s .accepted)
-  rise f r = rises f r .rising
-
   -- ---- runs after runs
 
   joined : {s₀ s₁ s₂ : State} → Reach a b name top s₀ s₁ → Reach a b name top s₁ s₂ → Reach a b name top s₀ s₂
@@ -252,7 +249,7 @@ module _ (a b name : Text) (top : Top) where
   pub claims : Claims a b name top
   claims = record {
     agreement = agreement;
-    rise = rise;
+    rise = λ f r. rises f r .rising;
     late-error-is-harmless = late-error-is-harmless;
     started = started name top;
     just-loaded = just-loaded name top;
