@@ -1,5 +1,7 @@
+pub mod Kit
 pub mod Walk
-pub mod Looking
+pub mod Ringing
+pub mod Leaving
 pub mod Called
 pub mod Asking
 pub mod Filling
