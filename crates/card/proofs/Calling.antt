@@ -4,7 +4,7 @@ use mathlib.Core.Bool.{Bool, true, false, cond, not, _&&_, true≢false}
 use mathlib.Core.List.{List, [], _∷_}
 use mathlib.Core.Logic.{⊎-elim}
 use mathlib.Core.Option.{Option, none, some}
-use Prim.Native.Nat.{ℕ, _<_, _≤_}
+use Prim.Native.Nat.{ℕ}
 use native.Mathlib.Omega.{arith}
 use lib.Dec.{eqb, ltb}
 use lib.ListN.{length, getD, set}
@@ -25,7 +25,7 @@ use Rattle.image.proofs.Entries.{legal-full, empty-is}
 use Rattle.image.proofs.Images.{rules, decoded, table-missing}
 use Rattle.image.proofs.Edits.{stored-at}
 use Rattle.image.proofs.Numbered.{put-slot-is}
-use Rattle.calls.specs.Outcome.{Outcome, Turn, refusal, refused}
+use Rattle.calls.specs.Outcome.{Outcome, Turn, refused}
 use Rattle.calls.specs.Calls.{Call, After, run}
 use Rattle.calls.proofs.Claims as call
 use Rattle.calls.proofs.Tables.{own-name}
@@ -163,7 +163,7 @@ module _ (q : Act) (image who text : Text) (room : ℕ) where
 
   is-13 : refusal-of a blind q text room ≡ 13
   unfolding refusal-of
-  is-13 = holds-first 13 ((ltb room (a .room), 6) ∷ way.by-act q a blind text) (λ z. absurd (omega arith))
+  is-13 = holds-first 13 ((ltb room (a .room), 6) ∷ way.by-act q a (way.glance blind) text) (λ z. absurd (omega arith))
 
   refused-13 : found (decode image) ≡ false → u ≡ refused empty 13
   unfolding take

@@ -10,7 +10,6 @@ use lib.ListN.{length, drop}
 use borrow.Author.Tests.{lt-ltb, le-ltb}
 use Rattle.octets.specs.Text.{Text, is-name}
 use Rattle.keying.specs.declared.Top.{Top}
-use Rattle.keying.specs.declared.Top.the-variants.{Single}
 use Rattle.partner.specs.declared.Entry.{Entry}
 use Rattle.partner.specs.Entry.{name-of}
 use Rattle.partner.proofs.Naming.{length-filled}

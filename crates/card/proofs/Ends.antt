@@ -1,54 +1,71 @@
 -- How each call over an image ends, from what its steps ensure.
-use mathlib.Core.Path.{_≡_, refl, sym, ap, _∙_, subst}
-use mathlib.Core.Bool.{Bool, cond}
+use mathlib.Core.Path.{_≡_, refl, sym, ap, _∙_}
+use mathlib.Core.Bool.{Bool, true, false, cond, not}
+use mathlib.Core.List.{List}
 use Prim.Native.Nat.{ℕ}
 use lib.Dec.{eqb}
-use lib.ListN.{length}
+use native.Mathlib.Omega.{arith}
+use lib.ListN.{length, drop, getD}
 use borrow.Author.Tests.{eq-eqb, ne-eqb}
 use Rattle.octets.specs.Text.{Text}
+use Rattle.octets.specs.Part.{found}
 use Rattle.partner.specs.declared.Entry.{Entry}
+use Rattle.partner.specs.Entry.{empty}
+use Rattle.image.specs.Image.{front-size, decode, slots-in}
 use Rattle.image.specs.Results.{put-slot}
+use Rattle.image.proofs.Standing.{past-64}
 use Rattle.calls.specs.Outcome.{Outcome, Turn, refusal, refused}
 use Rattle.outcome.specs.declared.Report.{Report}
 use Rattle.outcome.specs.declared.Turned.{Turned}
 use Rattle.outcome.specs.Report.{report, turned, replied}
 use Rattle.sight.specs.declared.aims.Act.{Act}
 use Rattle.sight.specs.declared.aims.Aim.{Aim}
-use Rattle.sight.specs.declared.Found.{Found}
 use Rattle.sight.specs.Aim.{with-room}
 use Rattle.sight.specs.Asked.{call-of}
 use Rattle.turn.specs.Way.{refusal as refusal-of, turn}
 use Rattle.turn.proofs.Acting.{way-refused, way-turned}
+use Rattle.card.specs.declared.Place.{Place}
 use Rattle.card.specs.Over.{outcome-over, Written}
-use Rattle.card.specs.Ways.{ours, aim, seen, found-in, turn-in, put-in, Changed}
+use Rattle.card.specs.Ways.{ours, aim, blind, sighted, seen, found-in, turn-in, Changed}
 use Rattle.card.proofs.Calling.{outcome-is}
 use Rattle.card.proofs.Delivering.{refused-so}
 use Rattle.card.proofs.Whole.{Judged}
 
 -- ---- the way, by what was found
 
-module _ (a : Aim) (image : Text) (q : Act) (text : Text) (room : ℕ) (f : Found) (e : f ≡ found-in a image q text room) where
+module _ (a : Aim) (image : Text) (q : Act) (text : Text) (room : ℕ) (f : Place) (e : f ≡ found-in a image q text room) where
   answer-is : f .answer ≡ refusal-of a (seen a image) q text room
-  answer-is = ap (λ (x : Found). x .answer) e
+  answer-is = ap (λ (x : Place). x .answer) e
 
   -- refused before the turn
   pub way-kept : (f .answer ≡ 0 → ⊥) → turn-in a image q text room ≡ refused (seen a image .entry) (f .answer)
   way-kept n = way-refused (ours image) a (seen a image) q text room (f .answer) answer-is n
 
   -- turned
-  pub way-went : f .answer ≡ 0 → turn-in a image q text room ≡ turn (ours image) (a .partner) (f .entry) q text room
-  way-went z =
-      way-turned (ours image) a (seen a image) q text room (f .answer) answer-is z
-      ∙ ap (λ (x : Entry). turn (ours image) (a .partner) x q text room) (sym (ap (λ (x : Found). x .entry) e))
+  pub way-went : f .answer ≡ 0 → turn-in a image q text room ≡ turn (ours image) (a .partner) (seen a image .entry) q text room
+  way-went = way-turned (ours image) a (seen a image) q text room (f .answer) answer-is
+
+  -- the entry that is turned is that of the slot
+  pub entry-is : (x : Entry) → x ≡ getD (slots-in 64 (drop front-size image)) (f .slot) empty → x ≡ seen a image .entry
+  unfolding seen
+  entry-is x h = h ∙ ap (λ (y : Place). getD slots (y .slot) empty) e ∙ by-image (found (decode image))
+    where
+      slots : List Entry
+      slots = slots-in 64 (drop front-size image)
+
+      by-image : (b : Bool)
+          → getD slots (cond (not b) blind (sighted a image) .at) empty ≡ cond (not b) blind (sighted a image) .entry
+      by-image true = refl
+      by-image false = sym (past-64 64 (drop front-size image) (omega arith))
 
 -- found by the call's own aim
-pub found-by : (q : Act) (image who text : Text) (room : ℕ) (a : Aim) (f : Found) → a ≡ aim q image who text
+pub found-by : (q : Act) (image who text : Text) (room : ℕ) (a : Aim) (f : Place) → a ≡ aim q image who text
     → f ≡ found-in a image q text room → f ≡ found-in (aim q image who text) image q text room
 found-by q image who text room a f i e = e ∙ ap (λ (x : Aim). found-in x image q text room) i
 
 -- ---- in place
 
-module _ (q : Act) (image who text buffer : Text) (a : Aim) (i : a ≡ aim q image who text) (f : Found)
+module _ (q : Act) (image who text buffer : Text) (a : Aim) (i : a ≡ aim q image who text) (f : Place)
     (e : f ≡ found-in a image q text (length buffer)) where
   abbrev b : Aim
   b = aim q image who text
@@ -69,29 +86,29 @@ module _ (q : Act) (image who text buffer : Text) (a : Aim) (i : a ≡ aim q ima
         told = p ∙ ap (λ (u : Turn). report (u .outcome)) (sym w);
         stored =
             sym (ap (λ (x : Bool). cond x (put-slot (seen b image .at) (turn-in b image q text room .entry) image) image)
-            (ap (λ (m : ℕ). eqb m 0) (sym (ap (λ (x : Found). x .answer) g)) ∙ ne-eqb (f .answer) 0 n));
+            (ap (λ (m : ℕ). eqb m 0) (sym (ap (λ (x : Place). x .answer) g)) ∙ ne-eqb (f .answer) 0 n));
         reply = ap (λ (u : Turn). replied (u .outcome) buffer) (sym w);
       }
 
   -- the turned entry is put back
-  pub changed-went : f .answer ≡ 0 → (own : Text) → own ≡ ours image → (w : Turned) (image′ buffer′ : Text)
-      → (w ≡ turned (turn own (a .partner) (f .entry) q text room))
-      × (buffer′ ≡ replied (turn own (a .partner) (f .entry) q text room .outcome) buffer)
+  pub changed-went : f .answer ≡ 0 → (own : Text) → own ≡ ours image
+      → (x : Entry) → x ≡ getD (slots-in 64 (drop front-size image)) (f .slot) empty → (w : Turned) (image′ buffer′ : Text)
+      → (w ≡ turned (turn own (a .partner) x q text room))
+      × (buffer′ ≡ replied (turn own (a .partner) x q text room .outcome) buffer)
       → image′ ≡ put-slot (f .slot) (w .entry) image → Changed q image who text buffer (w .report) image′ buffer′
   unfolding turned
-  changed-went z own o w image′ buffer′ k p =
-      let u : turn own (a .partner) (f .entry) q text room ≡ turn-in b image q text room =
-      ap (λ (x : Text). turn x (a .partner) (f .entry) q text room) o
-      ∙ ap (λ (x : Aim). turn (ours image) (x .partner) (f .entry) q text room) i
+  changed-went z own o x s w image′ buffer′ k p =
+      let u : turn own (a .partner) x q text room ≡ turn-in b image q text room =
+      (λ j. turn (o j) (i j .partner) (entry-is b image q text room f g x s j) q text room)
       ∙ sym (way-went b image q text room f g z) in
       let t : w ≡ turned (turn-in b image q text room) = k .0 ∙ ap turned u in
       record {
         told = ap (λ (x : Turned). x .report) t;
         stored =
-            p ∙ ap (λ (x : Found). put-slot (x .slot) (w .entry) image) g
+            p ∙ ap (λ (x : Place). put-slot (x .slot) (w .entry) image) g
             ∙ ap (λ (x : Turned). put-slot (seen b image .at) (x .entry) image) t
             ∙ sym (ap (λ (x : Bool). cond x (put-slot (seen b image .at) (turn-in b image q text room .entry) image) image)
-            (ap (λ (m : ℕ). eqb m 0) (sym (ap (λ (x : Found). x .answer) g)) ∙ eq-eqb (f .answer) 0 z));
+            (ap (λ (m : ℕ). eqb m 0) (sym (ap (λ (x : Place). x .answer) g)) ∙ eq-eqb (f .answer) 0 z));
         reply = k .1 ∙ ap (λ (x : Turn). replied (x .outcome) buffer) u;
       }
 
@@ -106,7 +123,7 @@ written-by q image who text buffer r image′ buffer′ k =
 -- ---- ask, load and remove
 
 -- refused: what was found
-pub refused-end : (o : Outcome) (s buffer : Text) (r : Report) (a : Aim) (image : Text) (q : Act) (text : Text) (f : Found)
+pub refused-end : (o : Outcome) (s buffer : Text) (r : Report) (a : Aim) (image : Text) (q : Act) (text : Text) (f : Place)
     → Judged o (turn-in a image q text (length buffer)) s → f ≡ found-in a image q text (length buffer)
     → (f .answer ≡ 0 → ⊥) → r ≡ report (refusal (f .answer)) → Written o buffer r buffer
 refused-end o s buffer r a image q text f j e n p =
@@ -120,7 +137,7 @@ pub aimed-as : (p q : Act) (image who text text′ : Text) (asks : ℕ) (a : Aim
 aimed-as p q image who text text′ asks a e t i =
     i ∙ ap (λ (x : Act). with-room (aim x image who text) asks) e ∙ ap (λ (x : Text). with-room (aim q image who x) asks) t
 
-pub found-as : (p q : Act) (image who text text′ : Text) (asks room : ℕ) (a : Aim) (f : Found) → p ≡ q → text ≡ text′
+pub found-as : (p q : Act) (image who text text′ : Text) (asks room : ℕ) (a : Aim) (f : Place) → p ≡ q → text ≡ text′
     → a ≡ with-room (aim p image who text) asks → f ≡ found-in a image p text room
     → f ≡ found-in (with-room (aim q image who text′) asks) image q text′ room
 found-as p q image who text text′ asks room a f e t i k =

@@ -14,7 +14,7 @@ use Rattle.keying.specs.declared.Top.{Top}
 use Rattle.keying.specs.Keys.{odd-top}
 use Rattle.csm.proofs.TextLaws.{none-some}
 use Rattle.partner.specs.declared.Entry.{Entry}
-use Rattle.partner.specs.Entry.{filled, name-of}
+use Rattle.partner.specs.Entry.{name-of}
 use Rattle.partner.specs.Table.{Table, is-empty, identities}
 use Rattle.image.specs.Image.{largest, decode}
 use Rattle.image.proofs.Buffers.{started-as}

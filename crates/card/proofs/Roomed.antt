@@ -18,7 +18,7 @@ use Rattle.image.specs.Image.{largest, decode, encode, table-in}
 use Rattle.image.specs.Results.{added-slot, removed-slot}
 use Rattle.image.proofs.Images.{table-missing}
 use Rattle.calls.specs.Outcome.{Outcome, Turn, refusal, refused}
-use Rattle.calls.specs.Calls.{about, ask, remove, load, run}
+use Rattle.calls.specs.Calls.{about, remove, load, run}
 use Rattle.partner.proofs.Claims as entries
 use Rattle.sight.specs.declared.aims.Act.the-variants.{Remove, Ask, Load}
 use Rattle.sight.specs.declared.aims.Aim.{Aim}

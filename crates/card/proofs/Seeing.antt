@@ -3,7 +3,7 @@ use mathlib.Core.Path.{_≡_, refl, sym, ap, _∙_, subst}
 use mathlib.Core.Bool.{Bool, true, false, cond, not, _&&_, _||_, true≢false}
 use mathlib.Core.List.{List, [], _∷_}
 use mathlib.Core.Option.{Option, none, some}
-use Prim.Native.Nat.{ℕ, _≤_, _<_}
+use Prim.Native.Nat.{ℕ}
 use native.Mathlib.Omega.{arith}
 use lib.Dec.{ltb}
 use lib.ListN.{length, drop, getD, set}
@@ -14,7 +14,7 @@ use Rattle.octets.specs.Part.{bare, found}
 use Rattle.csm.specs.Message.{Reading, read}
 use Rattle.csm.proofs.TextLaws.{none-some}
 use Rattle.partner.specs.declared.Entry.{Entry}
-use Rattle.partner.specs.Entry.{empty, filled}
+use Rattle.partner.specs.Entry.{empty}
 use Rattle.partner.specs.Legal as partner
 use Rattle.partner.proofs.Claims as entries
 use Rattle.partner.specs.Table.{Table, legal, is-empty, find, put}

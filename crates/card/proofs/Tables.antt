@@ -11,7 +11,6 @@ use Rattle.image.specs.Places.{own-in}
 use Rattle.image.proofs.Images.{decoded}
 use Rattle.image.proofs.Updates.{own-there}
 use Rattle.image.proofs.Claims.{claims}
-use Rattle.calls.specs.Words.{if_then_else_}
 use Rattle.calls.specs.Calls.{Call, refuse, run}
 use Rattle.calls.proofs.Tests.{if-true}
 use Rattle.calls.proofs.Tables.{legal-parts, own-name}

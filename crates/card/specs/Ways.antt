@@ -21,9 +21,9 @@ use Rattle.outcome.specs.Report.{report, replied}
 use Rattle.sight.specs.declared.aims.Act.{Act}
 use Rattle.sight.specs.declared.aims.Aim.{Aim}
 use Rattle.sight.specs.declared.Sight.{Sight}
-use Rattle.sight.specs.declared.Found.{Found}
 use Rattle.sight.specs.Aim.{aim-of}
 use Rattle.turn.specs.Way.{refusal, take}
+use Rattle.card.specs.declared.Place.{Place}
 use Rattle.card.specs.Whole.{top-in}
 
 -- ---- whom a call is about
@@ -63,12 +63,11 @@ seen a image = cond (not (found (decode image))) blind (sighted a image)
 
 -- ---- the turn, and the entry put back
 
--- the refusal that comes before the turn, the number of the slot, and its entry
-abbrev pub found-in : Aim → Text → Act → Text → ℕ → Found
+-- the refusal that comes before the turn, and the number of the slot
+abbrev pub found-in : Aim → Text → Act → Text → ℕ → Place
 found-in a image q text room = record {
   answer = refusal a (seen a image) q text room;
   slot = seen a image .at;
-  entry = seen a image .entry;
 }
 
 abbrev pub turn-in : Aim → Text → Act → Text → ℕ → Turn

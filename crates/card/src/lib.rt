@@ -14,7 +14,7 @@ mod key;
 mod seen;
 
 use outcome::Report;
-use sight::Found;
+use sight::Glance;
 use sight::aims;
 use sight::aims::Act;
 use sight::aims::Aim;
@@ -35,17 +35,32 @@ fn aim_in(image: &[u8], who: &[u8], act: Act, text: &[u8], room: usize) -> Aim
     aims::with_room(aim(image, who, act, text), room)
 }
 
-// The slot that is sought is looked up: the refusal that comes before the turn, its number, and its entry.
-fn find(image: &[u8], aim: Aim, act: Act, text: &[u8], room: usize) -> Found
+// What was looked up: the refusal that comes before the turn, or 0, and the number of the slot that is sought.
+struct Place {
+    answer: u32,
+    slot: usize,
+}
+
+// The slot that is sought is looked up; of what is no legal image nothing is seen.
+fn find(image: &[u8], aim: Aim, act: Act, text: &[u8], room: usize) -> Place
     ensures { λ r. ⌜ r ≡ ways.found-in aim (now (image .entry)) act (now (text .entry)) room ⌝ }
 {
-    let seen = seen::look_up(image, aim);
-    let answer = turn::refusal(aim, seen, act, text, room);
-    let entry = seen.entry;
-    Found {
-        answer,
-        slot: seen.at,
-        entry,
+    if !image::legal(image) {
+        return Place {
+            answer: turn::refusal(aim, seen::nothing(), act, text, room),
+            slot: seen::SLOTS,
+        };
+    }
+    let theirs = seen::theirs(image, aim);
+    let slot = seen::sought(image, aim, theirs);
+    let glance = Glance {
+        legal: true,
+        taken: theirs < seen::SLOTS,
+        there: slot < seen::SLOTS,
+    };
+    Place {
+        answer: turn::refusal(aim, glance, act, text, room),
+        slot,
     }
 }
 
@@ -59,7 +74,8 @@ fn change(image: &mut [u8], who: &[u8], act: Act, text: &[u8], reply: &mut [u8])
         return outcome::refusal(found.answer);
     }
     let own = octets::bare(image::own_identity(image));
-    let turned = turn::turn(own, aim.partner, found.entry, act, text, reply);
+    let entry = image::slot(image, found.slot);
+    let turned = turn::turn(own, aim.partner, entry, act, text, reply);
     image::put_slot(image, found.slot, turned.entry);
     turned.report
 }
@@ -91,7 +107,8 @@ pub fn build_rsi(image: &[u8], partner: &[u8], contents: &[u8], reply: &mut [u8]
         return outcome::refusal(found.answer);
     }
     let own = octets::bare(image::own_identity(image));
-    let turned = turn::turn(own, aim.partner, found.entry, act, contents, reply);
+    let entry = image::slot(image, found.slot);
+    let turned = turn::turn(own, aim.partner, entry, act, contents, reply);
     turned.report
 }
 
@@ -114,7 +131,8 @@ pub fn ask(image: &[u8], partner: &[u8], reply: &mut [u8]) -> Report
     if found.answer != 0 {
         return outcome::refusal(found.answer);
     }
-    outcome::told_nothing(record::put_entry(reply, found.entry))
+    let entry = image::slot(image, found.slot);
+    outcome::told_nothing(record::put_entry(reply, entry))
 }
 
 // ---- a whole new image

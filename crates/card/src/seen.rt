@@ -1,14 +1,28 @@
-// What is seen of the image: whether it is legal, and the slot that is sought.
+// What is seen of an image: the slot that is sought.
 ghost use mathlib.Core.Path.{_≡_};
+ghost use mathlib.Core.Bool.{cond};
+ghost use Rattle.image.specs.Places.{free-slot};
+ghost use Rattle.turn.specs.Way.{glance};
 ghost use Rattle.card.specs.Ways as ways;
-use sight::Sight;
+use sight::Glance;
 use sight::aims::Aim;
 
 // How many slots there are.
-const SLOTS: usize = 64;
+pub(crate) const SLOTS: usize = 64;
+
+// Of what is no legal image nothing.
+pub(crate) fn nothing() -> Glance
+    ensures { λ r. ⌜ r ≡ glance ways.blind ⌝ }
+{
+    Glance {
+        legal: false,
+        taken: false,
+        there: false,
+    }
+}
 
 // The slot of the partner whom an aim names; 64 where there is none.
-fn theirs(image: &[u8], aim: Aim) -> usize
+pub(crate) fn theirs(image: &[u8], aim: Aim) -> usize
     ensures { λ r. ⌜ r ≡ ways.theirs aim (now (image .entry)) ⌝ }
 {
     if !aim.theirs {
@@ -18,35 +32,12 @@ fn theirs(image: &[u8], aim: Aim) -> usize
     image::slot_of(image, &partner.bytes)
 }
 
-// The slot that is sought; 64 where there is none.
-fn sought(image: &[u8], aim: Aim) -> usize
-    ensures { λ r. ⌜ r ≡ ways.sought aim (now (image .entry)) ⌝ }
+// The slot that is sought, a free one or the partner's; 64 where there is none.
+pub(crate) fn sought(image: &[u8], aim: Aim, theirs: usize) -> usize
+    ensures { λ r. ⌜ r ≡ cond (aim .vacant) (free-slot (now (image .entry))) theirs ⌝ }
 {
     if aim.vacant {
         return image::free_slot(image);
     }
-    theirs(image, aim)
-}
-
-// What is seen; of what is no legal image nothing.
-pub(crate) fn look_up(image: &[u8], aim: Aim) -> Sight
-    ensures { λ r. ⌜ r ≡ ways.seen aim (now (image .entry)) ⌝ }
-{
-    if !image::legal(image) {
-        return Sight {
-            legal: false,
-            taken: false,
-            there: false,
-            at: SLOTS,
-            entry: partner::empty(),
-        };
-    }
-    let slot = sought(image, aim);
-    Sight {
-        legal: true,
-        taken: theirs(image, aim) < SLOTS,
-        there: slot < SLOTS,
-        at: slot,
-        entry: image::slot(image, slot),
-    }
+    theirs
 }

@@ -1,6 +1,5 @@
 -- The examples hold, by computation.
 use mathlib.Core.Path.{refl}
-use Rattle.octets.specs.Number.{number}
 use Rattle.outcome.specs.Report.{report}
 use Rattle.host.specs.Report.{report-bytes}
 use Rattle.host.specs.Examples.{Examples}

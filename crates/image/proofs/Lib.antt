@@ -1,7 +1,6 @@
 pub mod Determined
 pub mod Sizes
 pub mod Steps
-pub mod Words
 pub mod Standing
 pub mod Entries
 pub mod Slots

@@ -1,28 +1,23 @@
 -- One step of each loop over the records, and parts of an image.
-use mathlib.Core.Path.{_≡_, sym, ap, _∙_}
+use mathlib.Core.Path.{_≡_, refl, sym, ap, _∙_}
 use mathlib.Core.Bool.{Bool, true, false, cond, _&&_}
 use mathlib.Core.List.{List, [], _∷_}
 use Prim.Native.Nat.{ℕ, zero, suc, _+_, _-_, _≤_, _<_, max}
 use native.Mathlib.Omega.{arith}
-use lib.Dec.{eqb, ltb}
-use lib.ListN.{length, drop, getD, drop-of-length-le}
+use lib.Dec.{eqb, ltb, leb}
+use lib.ListN.{length, take, drop, getD, drop-of-length-le, length-take, length-drop}
 use borrow.Author.Tests.{eq-eqb, ne-eqb, le-leb, lt-leb}
 use Rattle.octets.specs.Text.{Text, same}
+use Rattle.octets.specs.Part.{part}
+use Rattle.octets.specs.Number.{of-numbers}
+use Rattle.octets.proofs.Words.{other-length}
+use Rattle.partner.specs.Record.{entry-size, entry-in}
 use Rattle.partner.specs.Legal as rule
 use Rattle.image.specs.Image.{kinds, body, record-length, partner-size, front-size}
 use Rattle.image.specs.Places.{own-in, is-partner, seek-slot, seek-free, past, entry-at}
 use Rattle.image.specs.Pass.{identity-at, apart-from, front-legal, record-legal}
 
 -- ---- bytes and parts
-
--- a byte that is there, where it is not 0
-pub kind-within : (s : Text) (at k : ℕ) → getD s at 0 ≡ suc k → at < length s
-kind-within s at k h = go s at h
-  where
-    go : (s : Text) (at : ℕ) → getD s at 0 ≡ suc k → at < length s
-    go [] at h = absurd (let z : _≡_ {A = ℕ} 0 (suc k) = h in omega arith)
-    go (x ∷ s) zero h = omega arith
-    go (x ∷ s) (suc at) h = let i = go s at h in omega arith
 
 -- behind the end nothing is left
 pub past-end : (s : Text) (at : ℕ) → length s ≤ at → drop at s ≡ drop (at + 1) s
@@ -75,6 +70,22 @@ module _ (n k at : ℕ) (id s : Text) (more : 0 < n) where
 
   pub seek-miss : is-partner at id s ≡ false → seek-slot n k at id s ≡ seek-on
   seek-miss h = seek-open ∙ ap (λ (b : Bool). cond b k seek-on) h
+
+-- where no identity is left
+pub seek-short : (n k at a b : ℕ) (s : Text) → length s < at + front-size → seek-slot n k at (of-numbers a b) s ≡ k + n
+unfolding seek-slot
+seek-short zero k at a b s h = omega arith
+seek-short (suc n) k at a b s h =
+    let id : Text = of-numbers a b in
+    let on : ℕ = at + record-length (getD s at 0) in
+    let short = other-length (identity-at at s) a b
+    (λ e. omega (arith, e, length-take 16 (drop (at + 1) s), length-drop (at + 1) s)) in
+    ap (λ (b : Bool). cond (eqb (getD s at 0) 2 && b) k (seek-slot n (k + 1) on id s)) short
+    ∙ by-kind (eqb (getD s at 0) 2) (seek-slot n (k + 1) on id s) ∙ seek-short n (k + 1) on a b s (omega arith) ∙ omega arith
+  where
+    by-kind : (b : Bool) (m : ℕ) → cond (b && false) k m ≡ m
+    by-kind true m = refl
+    by-kind false m = refl
 
 pub free-end : (n k at : ℕ) (s : Text) → n ≡ 0 → seek-free n k at s ≡ k
 unfolding seek-free
@@ -134,3 +145,15 @@ module _ (n at : ℕ) (s : Text) where
       ≡ rule.legal (entry-at at s) && apart-from n (at + partner-size) (identity-at at s) s
   unfolding record-legal
   legal-whole h k = rw (h, le-leb (at + partner-size) (length s) k)
+
+-- a body that is whole is judged where it stands
+abbrev pub whole-and-legal : Text → Bool
+whole-and-legal s = leb entry-size (length s) && rule.legal (entry-in s)
+
+pub judged-whole : (at : ℕ) (s : Text) → at + partner-size ≤ length s
+    → whole-and-legal (part s (record { at = at + 1; length = entry-size })) ≡ rule.legal (entry-at at s)
+unfolding entry-at part
+judged-whole at s h =
+    let body : Text = take entry-size (drop (at + 1) s) in
+    let fits : entry-size ≤ length body = simp (length-take, length-drop) (omega arith) in
+    ap (λ (b : Bool). b && rule.legal (entry-in body)) (le-leb entry-size (length body) fits)

@@ -1,12 +1,10 @@
 -- One pass over an image: what is asked of its front and of each record where it stands. An image is legal exactly
 -- where this holds throughout and it ends behind the 64th record (proofs/Legality.antt).
 use mathlib.Core.Bool.{Bool, cond, _&&_}
-use mathlib.Core.List.{_++_}
 use Prim.Native.Nat.{ℕ, _+_}
 use lib.Dec.{eqb, ltb, leb}
 use lib.ListN.{length, take, drop, getD}
 use Rattle.octets.specs.Text.{Text}
-use Rattle.octets.specs.Number.{bytes}
 use Rattle.partner.specs.Legal as rule
 use Rattle.image.specs.Image.{vacant, ours, partner, front-size, partner-size}
 use Rattle.image.specs.Places.{own-in, seek-slot, entry-at}
@@ -14,10 +12,6 @@ use Rattle.image.specs.Places.{own-in, seek-slot, entry-at}
 -- the identity of the record at a place
 abbrev pub identity-at : ℕ → Text → Text
 identity-at at image = take 16 (drop (at + 1) image)
-
--- the identity that two numbers are, eight bytes each
-unfoldable pub of-numbers : ℕ → ℕ → Text
-of-numbers first second = bytes 8 first ++ bytes 8 second
 
 -- none of n records from a place on has that identity
 abbrev pub apart-from : ℕ → ℕ → Text → Text → Bool

@@ -40,21 +40,11 @@ pub fn own_identity(image: &[u8]) -> &[u8]
 
 // ---- slots
 
-// The number of the slot of an identity of 16 bytes; 64 where there is none.
-fn slot_named(image: &[u8], identity: &[u8]) -> usize
-    requires { ⌜ length (now identity) ≡ 16 ⌝ }
-    ensures { λ r. ⌜ r ≡ places.slot-of (now (identity .entry)) (now (image .entry)) ⌝ }
-{
-    let first = records::number_at(identity, 0);
-    let second = records::number_at(identity, 8);
-    records::seek(image, first, second, FRONT_SIZE, SLOTS)
-}
-
 // The number of a partner's slot by its identity, filled with blanks; 64 where there is none.
 pub fn slot_of(image: &[u8], identity: &[u8; 16]) -> usize
     ensures { λ r. ⌜ r ≡ places.slot-of (now (identity .entry)) (now (image .entry)) ⌝ }
 {
-    slot_named(image, identity)
+    records::seek_named(image, identity, FRONT_SIZE, SLOTS)
 }
 
 // The number of the lowest empty slot; 64 where there is none.
@@ -109,9 +99,8 @@ fn is_apart(image: &[u8], identity: usize, from: usize, count: usize) -> bool
     requires { ⌜ (identity + 16 ≤ length (now image)) × (from + images.partner-size * count ≤ images.largest) ⌝ }
     ensures { λ r. ⌜ r ≡ pass.apart-from count from (take 16 (drop identity (now (image .entry)))) (now (image .entry)) ⌝ }
 {
-    let first = records::number_at(image, identity);
-    let second = records::number_at(image, identity + 8);
-    records::seek(image, first, second, from, count) == count
+    let end = identity + 16;
+    records::seek_named(image, &image[identity..end], from, count) == count
 }
 
 // Whether the front is: kind 1, and our identity, filled, which no partner has.
@@ -141,7 +130,11 @@ fn record_legal(image: &[u8], at: usize, left: usize) -> bool
     if image.len() < behind {
         return false;
     }
-    partner::legal(records::entry_at(image, at)) && is_apart(image, at + 1, behind, left)
+    let body = Span {
+        at: at + 1,
+        length: record::SIZE,
+    };
+    record::is_legal(octets::part(image, body)) & is_apart(image, at + 1, behind, left)
 }
 
 // Whether the image is that of a legal table.

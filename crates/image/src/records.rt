@@ -2,14 +2,12 @@
 ghost use mathlib.Core.Path.{_≡_};
 ghost use mathlib.Core.List.{_∷_};
 ghost use Prim.Native.Nat.{_+_, _*_, _<_, _≤_};
-ghost use lib.ListN.{length, take, drop, getD};
-ghost use Rattle.octets.specs.Text.{same};
-ghost use Rattle.octets.specs.Number.{number};
+ghost use lib.ListN.{length, getD};
+ghost use Rattle.octets.specs.Number.{of-numbers};
 ghost use Rattle.octets.specs.Wrote.{Wrote};
 ghost use Rattle.partner.specs.Record.{entry-size, entry-bytes};
 ghost use Rattle.image.specs.Image as images;
 ghost use Rattle.image.specs.Places as places;
-ghost use Rattle.image.specs.Pass as pass;
 ghost use Rattle.image.specs.Results as results;
 use crate::kinds;
 use octets::Span;
@@ -40,58 +38,30 @@ pub(crate) fn entry_at(image: &[u8], at: usize) -> Entry
     record::entry_in(octets::part(image, past))
 }
 
-// ---- identities as two numbers
+// ---- identities, compared as two numbers
 
-// A byte as a number.
-fn wide(b: u8) -> u64
-    ensures { λ r. ⌜ r ≡ b ⌝ }
-    ensures { λ r. ⌜ r < 256 ⌝ }
-{
-    b as u64
-}
-
-// The number of the eight bytes at a place, as a sum that compiles to one load.
-pub(crate) fn number_at(s: &[u8], at: usize) -> u64
-    requires { ⌜ at + 8 ≤ length (now s) ⌝ }
-    ensures { λ r. ⌜ r ≡ number (take 8 (drop at (now (s .entry)))) ⌝ }
-{
-    let b = at + 1;
-    let c = b + 1;
-    let d = c + 1;
-    let e = d + 1;
-    let f = e + 1;
-    let g = f + 1;
-    let h = g + 1;
-    let high = wide(s[at]) * 0x100_0000_0000_0000
-        + wide(s[b]) * 0x1_0000_0000_0000
-        + wide(s[c]) * 0x100_0000_0000
-        + wide(s[d]) * 0x1_0000_0000;
-    let low = wide(s[e]) * 0x100_0000 + wide(s[f]) * 0x1_0000 + wide(s[g]) * 0x100 + wide(s[h]);
-    high + low
-}
-
-// Whether the identity of the record at a place is that of the two numbers.
-fn is_there(image: &[u8], at: usize, first: u64, second: u64) -> bool
-    requires { ⌜ at < length (now image) ⌝ }
-    ensures { λ r. ⌜ r ≡ same (pass.identity-at at (now (image .entry))) (pass.of-numbers first second) ⌝ }
-{
-    if image.len() - at < kinds::FRONT_SIZE {
-        return false;
-    }
-    number_at(image, at + 1) == first && number_at(image, at + 9) == second
-}
-
-// Of `count` records from a place on: the number of the partner's with that identity, `count` where there is none.
-pub(crate) fn seek(image: &[u8], first: u64, second: u64, from: usize, count: usize) -> usize
+// Of `count` records from a place on: the number of the partner's with the identity of the two numbers, `count` where there
+// is none.
+fn seek(image: &[u8], first: u64, second: u64, from: usize, count: usize) -> usize
     requires { ⌜ from + images.partner-size * count ≤ images.largest ⌝ }
-    ensures { λ r. ⌜ r ≡ places.seek-slot count 0 from (pass.of-numbers first second) (now (image .entry)) ⌝ }
+    ensures { λ r. ⌜ r ≡ places.seek-slot count 0 from (of-numbers first second) (now (image .entry)) ⌝ }
 {
+    if image.len() < kinds::FRONT_SIZE {
+        return count;
+    }
+    // a kind and an identity stand up to here; behind it nobody does
+    let last = image.len() - kinds::FRONT_SIZE;
     let mut at = from;
     let mut slot = 0;
     while slot < count {
-        let here = byte_at(image, at);
+        if last < at {
+            return count;
+        }
+        let here = image[at];
         if here == kinds::PARTNER {
-            if is_there(image, at, first, second) {
+            let identity = at + 1;
+            let end = identity + 16;
+            if octets::same_numbers(&image[identity..end], first, second) {
                 return slot;
             }
             at += kinds::PARTNER_SIZE;
@@ -101,6 +71,16 @@ pub(crate) fn seek(image: &[u8], first: u64, second: u64, from: usize, count: us
         slot += 1;
     }
     slot
+}
+
+// The same by the identity's 16 bytes.
+pub(crate) fn seek_named(image: &[u8], identity: &[u8], from: usize, count: usize) -> usize
+    requires { ⌜ (length (now identity) ≡ 16) × (from + images.partner-size * count ≤ images.largest) ⌝ }
+    ensures { λ r. ⌜ r ≡ places.seek-slot count 0 from (now (identity .entry)) (now (image .entry)) ⌝ }
+{
+    let first = octets::number(&identity[..8]);
+    let second = octets::number(&identity[8..]);
+    seek(image, first, second, from, count)
 }
 
 // ---- an image with a record changed

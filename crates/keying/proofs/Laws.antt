@@ -1,5 +1,5 @@
 -- Unsealing undoes sealing and the other way round, single or pair; so it is with an IV's value; a MAC has 32 bits.
-use mathlib.Core.Path.{_≡_, refl, sym, ap, _∙_}
+use mathlib.Core.Path.{_≡_, sym, ap, _∙_}
 use mathlib.Core.Bool.{Bool, true, false, cond, not}
 use mathlib.Core.List.{List, [], _∷_, reverse}
 use Prim.Native.Nat.{ℕ, _/_, _^_, _<_}

@@ -27,6 +27,16 @@ both true true e = (refl, refl)
 both true false e = absurd (true≢false (sym e))
 both false b e = absurd (true≢false (sym e))
 
+-- true joined with true
+pub join : {a b : Bool} → a ≡ true → b ≡ true → a && b ≡ true
+join {a} {b} h k = ap (λ (x : Bool). x && b) h ∙ k
+
+-- two truths that follow from each other are one
+pub iff : (a b : Bool) → (a ≡ true → b ≡ true) → (b ≡ true → a ≡ true) → a ≡ b
+iff true b f g = sym (f refl)
+iff false true f g = g refl
+iff false false f g = refl
+
 -- ---- every byte
 
 pub all-append : (p : ℕ → Bool) (s t : Text) → all p (s ++ t) ≡ all p s && all p t

@@ -32,6 +32,9 @@ copy κs a x y v w p q = (alike (p .count) (q .count), alike (p .text) (q .text)
 pub fill : One-outcome fn.fill.ended fn.fill.Reads.Post
 fill κs a x y v w p q = (alike (p .count) (q .count), alike (p .text) (q .text) also refl)
 
+pub same-numbers : One-outcome fn.same_numbers.ended fn.same_numbers.Reads.Post
+same-numbers κs a x y v w p q = (alike p q, refl)
+
 pub number : One-outcome fn.number.ended fn.number.Reads.Post
 number κs a x y v w p q = (alike p q, refl)
 

@@ -1,13 +1,11 @@
 -- The claims of specs/First.antt, proved, and how an order is walked.
-use mathlib.Core.Path.{_≡_, refl, sym, ap, _∙_, subst}
-use mathlib.Core.Bool.{Bool, true, false, cond, true≢false}
-use mathlib.Core.List.{List, [], _∷_, _++_}
-use mathlib.Core.Logic.{_↔_}
+use mathlib.Core.Path.{_≡_, refl, sym, ap, _∙_}
+use mathlib.Core.Bool.{true, false}
+use mathlib.Core.List.{[], _∷_, _++_}
 use Prim.Native.Nat.{ℕ}
 use native.Mathlib.Omega.{arith}
-use lib.Dec.{eqb}
 use borrow.Author.Tests.{ne-eqb}
-use Rattle.octets.specs.First.{Order, then, go, first, Numbered, Passed, Given, Claims}
+use Rattle.octets.specs.First.{Order, go, first, Numbered, Passed, Given, Claims}
 use Rattle.octets.specs.First as orders
 
 -- a number that is given stays
@@ -18,9 +16,6 @@ stays n (t ∷ ts) h = rw (ne-eqb n 0 h) (stays n ts h)
 -- a test that holds gives its number, and one that does not gives the rest
 pub holds-first : (n : ℕ) (ts : Order) → (n ≡ 0 → ⊥) → first ((true, n) ∷ ts) ≡ n
 holds-first n ts h = stays n ts h
-
-pub passes-first : (n : ℕ) (ts : Order) → first ((false, n) ∷ ts) ≡ first ts
-passes-first n ts = refl
 
 is-given : (ts : Order) (n : ℕ) → Numbered ts → (n ≡ 0 → ⊥) → first ts ≡ n → Given ts n
 is-given ts n orders.Numbered.end z p = absurd (z (sym p))

@@ -3,6 +3,7 @@ pub mod Parting
 pub mod Writing
 pub mod Numbers
 pub mod Parts
+pub mod Words
 pub mod Codecs
 pub mod Firsts
 pub mod Alike

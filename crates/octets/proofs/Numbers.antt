@@ -17,7 +17,7 @@ use borrow.Author.Tests.{lt-ltb, ltb-true}
 use Rattle.octets.specs.Text.{Text}
 use Rattle.octets.specs.Part.{all-octets}
 use Rattle.octets.specs.Number.{number-after, number, bytes, copies}
-use Rattle.octets.proofs.Comparing.{both, all-append, octets-at}
+use Rattle.octets.proofs.Comparing.{both, all-append}
 
 power-positive : (k : ℕ) → zero < 256 ^ k
 power-positive k = one-le-pow k 256 (omega arith)
@@ -33,9 +33,6 @@ octets-bytes zero n = refl
 octets-bytes (suc k) n =
     let h : ltb (n % 256) 256 ≡ true = lt-ltb (n % 256) 256 (mod-lt n (omega arith)) in
     all-append (λ b. ltb b 256) (bytes k (n / 256)) (n % 256 ∷ []) ∙ rw (octets-bytes k (n / 256), h)
-
-pub below-bytes : (k n i : ℕ) → i < k → getD (bytes k n) i 0 < 256
-below-bytes k n i h = octets-at (bytes k n) i (octets-bytes k n) (omega (arith, length-bytes k n))
 
 shift : (n k : ℕ) → n / 256 / 256 ^ k ≡ n / 256 ^ suc k
 shift n k = div-div-eq-div-mul n 256 (256 ^ k) ∙ ap (λ (m : ℕ). n / m) (sym (pow-succ' 256 k))
@@ -91,10 +88,6 @@ pub number-cons : (b : ℕ) (s : Text) → number (b ∷ s) ≡ b * 256 ^ length
 unfolding number
 number-cons b s = ap (λ (m : ℕ). number-after m s) (zero-add b) ∙ number-after-is b s
 
-pub number-join : (s t : Text) → number (s ++ t) ≡ number s * 256 ^ length t + number t
-unfolding number
-number-join s t = number-append 0 s t ∙ number-after-is (number s) t
-
 pub number-below : (s : Text) → all-octets s ≡ true → number s < 256 ^ length s
 unfolding number
 number-below [] e = omega arith
@@ -123,12 +116,6 @@ bytes-number s e = bytes-after 0 s e
 pub number-fits : (s : Text) → all-octets s ≡ true → length s ≤ 8 → number s % 2 ^ 64 ≡ number s
 number-fits s e h =
     mod-eq-of-lt (lt-of-lt-of-le (number-below s e) (pow-le-pow-right {n = 256} (omega arith) h))
-
--- two texts of one length with one number are one text
-pub number-same : (s t : Text) → all-octets s ≡ true → all-octets t ≡ true → length s ≡ length t → number s ≡ number t
-    → s ≡ t
-number-same s t e f l n =
-    sym (bytes-number s e) ∙ ap (λ (k : ℕ). bytes k (number s)) l ∙ ap (bytes (length t)) n ∙ bytes-number t f
 
 -- a loop that reads byte by byte
 pub number-step : (s : Text) (i : ℕ) → i < length s → number (take (i + 1) s) ≡ number (take i s) * 256 + getD s i 0

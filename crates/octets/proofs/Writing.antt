@@ -1,6 +1,6 @@
 -- Laws of writing: what is laid over the front of a buffer, byte by byte, and one writer after the other.
 use mathlib.Core.Path.{_≡_, refl, sym, ap, _∙_, subst}
-use mathlib.Core.List.{[], _∷_, _++_, append-nil}
+use mathlib.Core.List.{[], _∷_, _++_, append-assoc, append-nil}
 use Prim.Native.Nat.{ℕ, zero, suc, _+_, _-_, _≤_, _<_, min}
 use native.Mathlib.Nat.{le-of-suc-le-suc, not-suc-le-zero}
 use native.Mathlib.Numerals.{add-one}
@@ -125,6 +125,13 @@ wrote-rest {x} {y} {l} {l₁} {e} {n} {m} p q =
 -- the same text, grouped otherwise
 pub wrote-as : {x y l l₁ : Text} {n : ℕ} → x ≡ y → Wrote x l l₁ n → Wrote y l l₁ n
 wrote-as {l} {l₁} {n} e p = subst (λ (t : Text). Wrote t l l₁ n) e p
+
+-- and then z behind both: the three texts one after the other
+pub wrote-three : {x y z l l₁ e f : Text} {n m k : ℕ} → Wrote x l l₁ n → Wrote y (take (length l₁ - n) (drop n l₁)) e m
+    → let l₂ = take n l₁ ++ (e ++ drop (length l₁ - n) (drop n l₁)) in
+    Wrote z (take (length l₂ - (n + m)) (drop (n + m) l₂)) f k
+    → Wrote (x ++ (y ++ z)) l (take (n + m) l₂ ++ (f ++ drop (length l₂ - (n + m)) (drop (n + m) l₂))) (n + m + k)
+wrote-three {x} {y} {z} p q r = wrote-as (append-assoc x y z) (wrote-rest (wrote-rest p q) r)
 
 pub wrote-nothing : (l : Text) → Wrote [] l l 0
 wrote-nothing l = record { text = refl; count = omega arith }

@@ -17,6 +17,10 @@ abbrev pub bytes : ℕ → ℕ → Text
 bytes zero n = []
 bytes (suc k) n = bytes k (n / 256) ++ n % 256 ∷ []
 
+-- the sixteen bytes of two numbers
+unfoldable pub of-numbers : ℕ → ℕ → Text
+of-numbers first second = bytes 8 first ++ bytes 8 second
+
 -- k times the same byte
 abbrev pub copies : ℕ → ℕ → Text
 copies zero b = []

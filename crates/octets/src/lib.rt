@@ -1,8 +1,8 @@
 // Leaves over lent bytes: compare, find, copy to the front of a lent rest, numbers high byte first; and the first test that
 // holds.
 ghost use mathlib.Core.Path.{_≡_};
-ghost use Prim.Native.Nat.{_+_, _/_, _%_, _^_, min};
-ghost use lib.ListN.{drop};
+ghost use Prim.Native.Nat.{_+_, _/_, _%_, _^_, _<_, min};
+ghost use lib.ListN.{length, drop};
 ghost use Rattle.octets.specs.Text as text;
 ghost use Rattle.octets.specs.Part as part;
 ghost use Rattle.octets.specs.Number as numbers;
@@ -165,8 +165,39 @@ pub fn fill(rest: &mut [u8], k: usize, b: u8) -> usize
     filled
 }
 
-// The number that the bytes of s are, the high byte first, as far as 64 bits hold it.
-pub fn number(s: &[u8]) -> u64
+// A byte as a number.
+fn wide(b: u8) -> u64
+    ensures { λ r. ⌜ r ≡ b ⌝ }
+    ensures { λ r. ⌜ r < 256 ⌝ }
+{
+    b as u64
+}
+
+// The number of eight bytes, as a sum that compiles to one load.
+fn eight(s: &[u8]) -> u64
+    requires { ⌜ length (now s) ≡ 8 ⌝ }
+    ensures { λ r. ⌜ r ≡ numbers.number (now (s .entry)) ⌝ }
+{
+    let high = wide(s[0]) * 0x100_0000_0000_0000
+        + wide(s[1]) * 0x1_0000_0000_0000
+        + wide(s[2]) * 0x100_0000_0000
+        + wide(s[3]) * 0x1_0000_0000;
+    let low = wide(s[4]) * 0x100_0000 + wide(s[5]) * 0x1_0000 + wide(s[6]) * 0x100 + wide(s[7]);
+    high + low
+}
+
+// Whether s is the sixteen bytes of two numbers.
+pub fn same_numbers(s: &[u8], first: u64, second: u64) -> bool
+    ensures { λ r. ⌜ r ≡ text.same (now (s .entry)) (numbers.of-numbers first second) ⌝ }
+{
+    if s.len() != 16 {
+        return false;
+    }
+    eight(&s[..8]) == first && eight(&s[8..]) == second
+}
+
+// The number of any bytes, byte by byte.
+fn gathered(s: &[u8]) -> u64
     ensures { λ r. ⌜ r ≡ numbers.number (now (s .entry)) % 2 ^ 64 ⌝ }
 {
     let mut x: u64 = 0;
@@ -176,6 +207,13 @@ pub fn number(s: &[u8]) -> u64
         i += 1;
     }
     x
+}
+
+// The number that the bytes of s are, the high byte first, as far as 64 bits hold it.
+pub fn number(s: &[u8]) -> u64
+    ensures { λ r. ⌜ r ≡ numbers.number (now (s .entry)) % 2 ^ 64 ⌝ }
+{
+    if s.len() == 8 { eight(s) } else { gathered(s) }
 }
 
 // The byte of x that has `place` bytes behind it.

@@ -3,7 +3,7 @@ use mathlib.Core.Path.{_≡_, refl, ap}
 use Prim.Native.Nat.{ℕ}
 use native.Mathlib.Omega.{arith}
 use Rattle.octets.specs.One.{One-outcome}
-use Rattle.octets.proofs.Alike.{alike, _also_}
+use Rattle.octets.proofs.Alike.{alike}
 use Rattle.keying.specs.declared.DataKeys.{DataKeys}
 use Rattle.keying.specs.declared.DataKeys.the-variants.{None, One, Two}
 use Rattle.keying.specs.Keys.{listed}
@@ -77,3 +77,18 @@ broken κs a x y v w p q = (alike p q, refl)
 
 pub legal : One-outcome fn.rules.legal.ended fn.rules.legal.Reads.Post
 legal κs a x y v w p q = (alike p q, refl)
+
+pub is-named : One-outcome fn.rules.is_named.ended fn.rules.is_named.Reads.Post
+is-named κs a x y v w p q = (alike p q, refl)
+
+pub is-unused : One-outcome fn.rules.is_unused.ended fn.rules.is_unused.Reads.Post
+is-unused κs a x y v w p q = (alike p q, refl)
+
+pub top-right : One-outcome fn.rules.top_right.ended fn.rules.top_right.Reads.Post
+top-right κs a x y v w p q = (alike p q, refl)
+
+pub sending-right : One-outcome fn.rules.sending_right.ended fn.rules.sending_right.Reads.Post
+sending-right κs a x y v w p q = (alike p q, refl)
+
+pub receiving-right : One-outcome fn.rules.receiving_right.ended fn.rules.receiving_right.Reads.Post
+receiving-right κs a x y v w p q = (alike p q, refl)

@@ -5,7 +5,7 @@ use Rattle.keying.specs.Parity.{odd, odd-byte}
 use Rattle.keying.specs.Keys.{odd-top}
 use Rattle.partner.specs.Entry.{empty, filled, top-of, places, keys-in}
 use Rattle.partner.specs.Legal.{is-filled, is-named, set-named, names-formed, is-unused, set-clean, form-clean}
-use Rattle.partner.specs.Legal.{unused-zero, top-odd, counts-right, idle-right, keys-if, outgoing-right, incoming-right, rules, broken, legal}
+use Rattle.partner.specs.Legal.{unused-zero, top-odd, counts-right, idle-right, outgoing-right, incoming-right, rules, broken, legal}
 use Rattle.partner.specs.Record.{entry-bytes, entry-in}
 use Rattle.partner.specs.Table.{is-empty, empties, slot-rules, slots-rules}
 use Rattle.partner.specs.Table as tables
@@ -16,7 +16,7 @@ unfoldable pub computes : Unit {0}
 unfolding
     number odd odd-byte odd-top empty filled top-of places keys-in
     is-filled is-named set-named names-formed is-unused set-clean form-clean unused-zero top-odd counts-right idle-right
-    keys-if outgoing-right incoming-right rules broken legal
+    outgoing-right incoming-right rules broken legal
     entry-bytes entry-in
     is-empty empties slot-rules slots-rules tables.rules tables.broken
 computes = tt

@@ -1,13 +1,13 @@
 -- The changes of an entry keep it legal.
-use mathlib.Core.Path.{_≡_, refl, sym, ap, _∙_}
-use mathlib.Core.Bool.{Bool, true, false, _&&_, _||_}
+use mathlib.Core.Path.{_≡_, refl, sym}
+use mathlib.Core.Bool.{Bool, true, false}
 use Prim.Native.Nat.{ℕ, _+_, _≤_, _<_, max}
 use native.Mathlib.Nat.{le-max-left, max-le}
 use native.Mathlib.Omega.{arith}
 use lib.Dec.{eqb, leb}
 use borrow.Author.Tests.{le-leb, leb-true, lt-ltb, ne-eqb, eqb-false, not-false}
 use Rattle.octets.specs.Text.{within}
-use Rattle.octets.proofs.Comparing.{both}
+use Rattle.octets.proofs.Comparing.{both, join}
 use Rattle.keying.specs.declared.Top.{Top}
 use Rattle.keying.specs.declared.Top.the-variants.{Single, Pair}
 use Rattle.keying.specs.Keys.{odd-top}
@@ -16,10 +16,10 @@ use Rattle.partner.specs.declared.DataKey.{DataKey}
 use Rattle.partner.specs.declared.KeySet.{KeySet}
 use Rattle.partner.specs.declared.Sending.{Sending}
 use Rattle.partner.specs.declared.Entry.{Entry}
-use Rattle.partner.specs.Entry.{limit, risen, idle, waiting, confirmed, broken, no-keys, one-key, two-keys, top-of}
+use Rattle.partner.specs.Entry.{limit, risen, idle, waiting, broken, no-keys, one-key, two-keys, top-of}
 use Rattle.partner.specs.Legal.{exactly, is-filled, is-named, is-unused, set-named, set-clean, keys-formed}
 use Rattle.partner.specs.Legal.{names-formed, form-clean, unused-zero, top-odd}
-use Rattle.partner.specs.Legal.{counts-right, idle-right, keys-if, outgoing-right}
+use Rattle.partner.specs.Legal.{counts-right, idle-right, outgoing-right}
 use Rattle.partner.specs.Legal.{incoming-right, legal, rules as list}
 use Rattle.partner.specs.Changes.{with-sending, with-receiving, kept, loaded}
 use Rattle.partner.specs.Changes.{accepted, issued, settled, given-up, failed}
@@ -69,10 +69,6 @@ rules e h =
       incoming-right = not-false (incoming-right (e .receiving)) (k .1 .1 .1 .1 .1 .1 .0);
     }
 
--- true joined with true
-join : {a b : Bool} → a ≡ true → b ≡ true → a && b ≡ true
-join {a} {b} h k = ap (λ (x : Bool). x && b) h ∙ k
-
 pub whole : (e : Entry) → Rules e → legal e ≡ true
 unfolding list names-formed unused-zero counts-right
 whole e p =
@@ -109,7 +105,7 @@ sent e p w =
     neither false h = refl
 
 keyed : (e : Entry) → Rules e → e .sending .phase ≡ waiting → within 1 2 (e .sending .outgoing .count) ≡ true
-unfolding outgoing-right keys-if
+unfolding outgoing-right
 keyed e p w = rw w at (p .outgoing-right)
 
 -- ---- key sets
@@ -138,7 +134,7 @@ two-formed k l g h = rw (g, h)
 
 pub loaded-legal : (identity name : Name) (top : Top) → is-filled (identity .bytes) ≡ true
     → is-filled (name .bytes) ≡ true → odd-top top ≡ true → legal (loaded identity name top) ≡ true
-unfolding loaded form-clean top-odd top-of set-named set-clean is-unused idle-right keys-if outgoing-right incoming-right
+unfolding loaded form-clean top-odd top-of set-named set-clean is-unused idle-right outgoing-right incoming-right
 loaded-legal identity name top a b c = whole (loaded identity name top) (record {
   identity-filled = a;
   name-filled = b;
@@ -166,7 +162,7 @@ loaded-legal identity name top a b c = whole (loaded identity name top) (record 
 -- the receiving unit anew, with keys
 pub accepted-legal : (e : Entry) (count : ℕ) (keys : KeySet) → legal e ≡ true → 1 ≤ count → count < limit
     → keys-formed keys ≡ true → legal (with-receiving e (accepted count keys)) ≡ true
-unfolding accepted keys-if incoming-right
+unfolding accepted incoming-right
 accepted-legal e count keys h l m g =
     let p = rules e h in
     let f = formed keys g in
@@ -210,7 +206,7 @@ sent-legal e s h a b l m i o = let p = rules e h in whole (with-sending e s) (re
 
 pub issued-legal : (e : Entry) (keys : KeySet) → legal e ≡ true → e .sending .next < limit → keys-formed keys ≡ true
     → legal (with-sending e (issued (e .sending) keys)) ≡ true
-unfolding issued keys-if outgoing-right
+unfolding issued outgoing-right
 issued-legal e keys h m f =
     let n = e .sending .next in
     let l = within-both 1 limit n (rules e h .next-right) in
@@ -221,7 +217,7 @@ issued-legal e keys h m f =
 
 pub settled-legal : (e : Entry) → legal e ≡ true → e .sending .phase ≡ waiting
     → legal (with-sending e (settled (e .sending))) ≡ true
-unfolding settled keys-if outgoing-right
+unfolding settled outgoing-right
 settled-legal e h w =
     let p = rules e h in
     sent-legal e (settled (e .sending)) h (p .outgoing-named) (p .outgoing-clean) (sent e p w)
@@ -230,7 +226,7 @@ settled-legal e h w =
 -- broken, with no keys
 broken-legal : (e : Entry) (n : ℕ) → legal e ≡ true → 2 ≤ n → n ≤ limit
     → legal (with-sending e (record { next = n; phase = broken; outgoing = no-keys })) ≡ true
-unfolding set-named set-clean is-unused keys-if outgoing-right
+unfolding set-named set-clean is-unused outgoing-right
 broken-legal e n h l m = sent-legal e _ h refl refl l m refl refl
 
 pub given-up-legal : (e : Entry) → legal e ≡ true → e .sending .phase ≡ waiting

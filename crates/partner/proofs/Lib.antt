@@ -8,3 +8,4 @@ pub mod Holding
 pub mod Determined
 pub mod Examples
 pub mod Claims
+pub mod Units

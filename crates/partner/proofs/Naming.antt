@@ -4,7 +4,6 @@ use mathlib.Core.Bool.{Bool, true, false, _&&_, true≢false}
 use mathlib.Core.List.{[], _∷_, _++_, append-nil}
 use Prim.Native.Nat.{ℕ, zero, suc, _+_, _-_, _≤_}
 use Prim.Native.Char.{code}
-use native.Mathlib.Nat.{le-of-suc-le-suc, not-suc-le-zero}
 use native.Mathlib.Omega.{arith}
 use lib.Dec.{eqb, leb}
 use lib.ListN.{length, take, length-append, length-take}
@@ -13,7 +12,6 @@ use borrow.Author.Tests.{ne-eqb, leb-true}
 use Rattle.octets.specs.Text.{Text, blank, all, free, same, within, run-char, is-name}
 use Rattle.octets.specs.Part.{before, bare}
 use Rattle.octets.specs.Number.{copies}
-use Rattle.octets.specs.Wrote.{over}
 use Rattle.octets.proofs.Comparing.{both, same-equal, same-self}
 use Rattle.octets.proofs.Parting.{before-first, bare-free}
 use Rattle.octets.proofs.Numbers.{length-copies}
@@ -89,9 +87,6 @@ filled-length s h = ap length (sym (filled-bare s h)) ∙ length-filled (bare s)
 -- two names with one field are one name, and two fields with one name one field
 pub filled-same : (v w : Text) → is-name v ≡ true → is-name w ≡ true → filled v ≡ filled w → v ≡ w
 filled-same v w g h e = sym (bare-filled v g) ∙ ap bare e ∙ bare-filled w h
-
-pub bare-same : (s t : Text) → is-filled s ≡ true → is-filled t ≡ true → bare s ≡ bare t → s ≡ t
-bare-same s t g h e = sym (filled-bare s g) ∙ ap filled e ∙ filled-bare t h
 
 pub blanks-unnamed : is-filled blanks ≡ false
 unfolding is-filled

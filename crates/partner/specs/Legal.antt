@@ -28,8 +28,11 @@ unfoldable pub is-filled : Text → Bool
 is-filled s = is-name (bare s) && same s (filled (bare s))
 
 -- a name or none
+abbrev pub name-or-none : Text → Bool
+name-or-none s = same s blanks || is-filled s
+
 unfoldable pub is-named : DataKey → Bool
-is-named k = same (k .name .bytes) blanks || is-filled (k .name .bytes)
+is-named k = name-or-none (k .name .bytes)
 
 -- the names of a set's keys
 unfoldable pub set-named : KeySet → Bool
@@ -43,8 +46,11 @@ names-formed e =
 
 -- ---- 4: unused bytes: a single key's second half and unused key places are zero
 
+abbrev pub zero-place : ℕ → Text → Bool
+zero-place key name = eqb key 0 && same name (zero-name .bytes)
+
 unfoldable pub is-unused : DataKey → Bool
-is-unused k = eqb (k .key) 0 && same (k .name .bytes) (zero-name .bytes)
+is-unused k = zero-place (k .key) (k .name .bytes)
 
 unfoldable pub set-clean : KeySet → Bool
 set-clean set =
@@ -74,24 +80,28 @@ counts-right next-send expected = within 1 limit next-send && within 1 limit exp
 
 -- ---- 7: phase 0 exactly when next send is 1
 
+abbrev pub idle-at-1 : ℕ → ℕ → Bool
+idle-at-1 p next-send = exactly (eqb p phase.idle) (eqb next-send 1)
+
 unfoldable pub idle-right : Sending → Bool
-idle-right s = exactly (eqb (s .phase) phase.idle) (eqb (s .next) 1)
+idle-right s = idle-at-1 (s .phase) (s .next)
 
 -- ---- 8: one or two outgoing keys in phases 1 and 2 and none in 0 and 3
 
 -- one or two keys if so, and none if not
-unfoldable pub keys-if : Bool → KeySet → Bool
-keys-if so set = cond so (within 1 2 (set .count)) (eqb (set .count) 0)
+abbrev pub count-if : Bool → ℕ → Bool
+count-if so n = cond so (within 1 2 n) (eqb n 0)
+
+abbrev pub count-in-phase : ℕ → ℕ → Bool
+count-in-phase p n = leb p phase.broken && count-if (eqb p phase.waiting || eqb p phase.confirmed) n
 
 unfoldable pub outgoing-right : Sending → Bool
-outgoing-right s =
-    leb (s .phase) phase.broken
-    && keys-if (eqb (s .phase) phase.waiting || eqb (s .phase) phase.confirmed) (s .outgoing)
+outgoing-right s = count-in-phase (s .phase) (s .outgoing .count)
 
 -- ---- 9: incoming keys exactly when expected exceeds 1
 
 unfoldable pub incoming-right : Receiving → Bool
-incoming-right r = keys-if (ltb 1 (r .expected)) (r .incoming)
+incoming-right r = count-if (ltb 1 (r .expected)) (r .incoming .count)
 
 -- ---- the list
 
@@ -114,3 +124,30 @@ broken e = first (rules e)
 -- none is
 unfoldable pub legal : Entry → Bool
 legal e = eqb (broken e) 0
+
+-- ---- the same, a unit at a time: what is asked of a record where it stands (proofs/Units.antt)
+
+unfoldable pub top-right : TopKey → Bool
+top-right k = is-filled (k .name .bytes) && form-clean k && top-odd k
+
+unfoldable pub sending-right : ℕ → ℕ → ℕ → Bool
+sending-right next-send p n = within 1 limit next-send && idle-at-1 p next-send && count-in-phase p n
+
+unfoldable pub receiving-right : ℕ → ℕ → Bool
+receiving-right expected n = within 1 limit expected && count-if (ltb 1 expected) n
+
+-- a key place in use has a name or none, another is zero
+unfoldable pub place-formed : Bool → DataKey → Bool
+place-formed used k = cond used (is-named k) (is-unused k)
+
+unfoldable pub set-formed : KeySet → Bool
+set-formed set =
+    place-formed (leb 1 (set .count)) (set .first) && place-formed (leb 2 (set .count)) (set .second)
+
+unfoldable pub units-right : Entry → Bool
+units-right e =
+    is-filled (e .identity .bytes) && top-right (e .top)
+    && sending-right (e .sending .next) (e .sending .phase) (e .sending .outgoing .count)
+    && set-formed (e .sending .outgoing)
+    && receiving-right (e .receiving .expected) (e .receiving .incoming .count)
+    && set-formed (e .receiving .incoming)

@@ -19,7 +19,12 @@ use keying::DataKeys;
 use keying::Top;
 pub use rules::broken;
 pub use rules::is_filled;
+pub use rules::is_named;
+pub use rules::is_unused;
 pub use rules::legal;
+pub use rules::receiving_right;
+pub use rules::sending_right;
+pub use rules::top_right;
 
 // Counts end here.
 pub const LIMIT: u32 = 99_999_999;

@@ -1,6 +1,7 @@
 // When an entry is legal by itself: the rules of document 01's list, in its order.
 ghost use mathlib.Core.Path.{_≡_};
 ghost use mathlib.Core.Bool.{_||_};
+ghost use lib.Dec.{ltb};
 ghost use Rattle.octets.specs.Text.{within, run-char};
 ghost use Rattle.partner.specs.Legal as rule;
 use crate::BROKEN;
@@ -12,9 +13,7 @@ use crate::KeySet;
 use crate::LIMIT;
 use crate::Name;
 use crate::PAIR;
-use crate::Receiving;
 use crate::SINGLE;
-use crate::Sending;
 use crate::TopKey;
 use crate::WAITING;
 
@@ -25,23 +24,22 @@ fn is_letter(b: u8) -> bool
     (b'0' <= b) & (b <= b'9') | (b'A' <= b) & (b <= b'Z')
 }
 
-// Whether a text is a name filled with blanks, from the end on: blanks, and characters before them.
+// Whether a text is a name filled with blanks: a character first, and behind a blank only blanks. No byte waits for the
+// answer about another, so that all are compared at once.
 pub fn is_filled(s: &[u8]) -> bool
     ensures { λ r. ⌜ r ≡ rule.is-filled (now (s .entry)) ⌝ }
 {
     if s.len() != 16 {
         return false;
     }
-    let mut i = 16;
-    let mut blanks = true;
     let mut formed = true;
-    while 0 < i {
-        i -= 1;
-        let blank = s[i] == b' ';
-        formed = blank & blanks | is_letter(s[i]) & formed;
-        blanks = blank & blanks;
+    let mut i = 0;
+    while i < 15 {
+        let next = i + 1;
+        formed = formed & (is_letter(s[i]) | (s[i] == b' ') & (s[next] == b' '));
+        i = next;
     }
-    formed & (s[0] != b' ')
+    formed & (is_letter(s[15]) | (s[15] == b' ')) & (s[0] != b' ')
 }
 
 // Whether a name is one filled with blanks.
@@ -51,19 +49,22 @@ fn name_filled(n: Name) -> bool
     is_filled(&n.bytes)
 }
 
-// Whether a key has a name or none.
-fn is_named(k: DataKey) -> bool
-    ensures { λ r. ⌜ r ≡ rule.is-named k ⌝ }
+// Eight blanks as a number.
+const BLANKS: u64 = 0x2020_2020_2020_2020;
+
+// Whether a key's name is one, or 16 blanks for none.
+pub fn is_named(name: &[u8]) -> bool
+    ensures { λ r. ⌜ r ≡ rule.name-or-none (now (name .entry)) ⌝ }
 {
-    let name = k.name;
-    octets::same(&name.bytes, b"                ") || is_filled(&name.bytes)
+    octets::same_numbers(name, BLANKS, BLANKS) || is_filled(name)
 }
 
 // Whether a key place is unused, or its key has a name or none.
 fn place_named(unused: bool, k: DataKey) -> bool
     ensures { λ r. ⌜ r ≡ (unused || rule.is-named k) ⌝ }
 {
-    unused || is_named(k)
+    let name = k.name;
+    unused || is_named(&name.bytes)
 }
 
 // Whether the names of a set's keys are well-formed.
@@ -87,21 +88,25 @@ fn names_formed(e: Entry) -> bool
 }
 
 // Whether a key place is zero in all its bytes.
-fn is_unused(k: DataKey) -> bool
-    ensures { λ r. ⌜ r ≡ rule.is-unused k ⌝ }
+pub fn is_unused(key: u64, name: &[u8]) -> bool
+    ensures { λ r. ⌜ r ≡ rule.zero-place key (now (name .entry)) ⌝ }
+{
+    key == 0 && octets::same_numbers(name, 0, 0)
+}
+
+// Whether a key place is used, or zero.
+fn place_clean(used: bool, k: DataKey) -> bool
+    ensures { λ r. ⌜ r ≡ (used || rule.is-unused k) ⌝ }
 {
     let name = k.name;
-    let zero = [0u8; 16];
-    k.key == 0 && octets::same(&name.bytes, &zero)
+    used || is_unused(k.key, &name.bytes)
 }
 
 // Whether the unused key places of a set are zero.
 fn set_clean(set: KeySet) -> bool
     ensures { λ r. ⌜ r ≡ rule.set-clean set ⌝ }
 {
-    let first = (1 <= set.count) | is_unused(set.first);
-    let second = (2 <= set.count) | is_unused(set.second);
-    first & second
+    place_clean(1 <= set.count, set.first) & place_clean(2 <= set.count, set.second)
 }
 
 // Key form 1 or 2, a single key's second half zero.
@@ -142,37 +147,62 @@ fn counts_right(next: u32, expected: u32) -> bool
 }
 
 // Phase 0 exactly when next send is 1.
-fn idle_right(s: Sending) -> bool
-    ensures { λ r. ⌜ r ≡ rule.idle-right s ⌝ }
+fn idle_right(phase: u8, next: u32) -> bool
+    ensures { λ r. ⌜ r ≡ rule.idle-at-1 phase next ⌝ }
 {
-    (s.phase == IDLE) == (s.next == 1)
+    (phase == IDLE) == (next == 1)
 }
 
 // One or two keys if so, and none if not.
-fn keys_if(so: bool, set: KeySet) -> bool
-    ensures { λ r. ⌜ r ≡ rule.keys-if so set ⌝ }
+fn keys_if(so: bool, count: u8) -> bool
+    ensures { λ r. ⌜ r ≡ rule.count-if so count ⌝ }
 {
     if so {
-        within(1, 2, set.count as u32)
+        within(1, 2, count as u32)
     } else {
-        set.count == 0
+        count == 0
     }
 }
 
 // One or two outgoing keys in phases 1 and 2 and none in 0 and 3.
-fn outgoing_right(s: Sending) -> bool
-    ensures { λ r. ⌜ r ≡ rule.outgoing-right s ⌝ }
+fn outgoing_right(phase: u8, count: u8) -> bool
+    ensures { λ r. ⌜ r ≡ rule.count-in-phase phase count ⌝ }
 {
-    let keyed = (s.phase == WAITING) | (s.phase == CONFIRMED);
-    (s.phase <= BROKEN) & keys_if(keyed, s.outgoing)
+    let keyed = (phase == WAITING) | (phase == CONFIRMED);
+    (phase <= BROKEN) & keys_if(keyed, count)
 }
 
 // Incoming keys exactly when expected exceeds 1.
-fn incoming_right(r: Receiving) -> bool
-    ensures { λ b. ⌜ b ≡ rule.incoming-right r ⌝ }
+fn incoming_right(expected: u32, count: u8) -> bool
+    ensures { λ r. ⌜ r ≡ rule.count-if (ltb 1 expected) count ⌝ }
 {
-    keys_if(1 < r.expected, r.incoming)
+    keys_if(1 < expected, count)
 }
+
+// ---- a unit at a time
+
+// What the rules ask of a top key.
+pub fn top_right(k: TopKey) -> bool
+    ensures { λ r. ⌜ r ≡ rule.top-right k ⌝ }
+{
+    name_filled(k.name) & form_clean(k) & top_odd(k)
+}
+
+// What they ask of the next send count, the phase and the number of outgoing keys.
+pub fn sending_right(next: u32, phase: u8, count: u8) -> bool
+    ensures { λ r. ⌜ r ≡ rule.sending-right next phase count ⌝ }
+{
+    within(1, LIMIT, next) & idle_right(phase, next) & outgoing_right(phase, count)
+}
+
+// What they ask of the expected count and the number of incoming keys.
+pub fn receiving_right(expected: u32, count: u8) -> bool
+    ensures { λ r. ⌜ r ≡ rule.receiving-right expected count ⌝ }
+{
+    within(1, LIMIT, expected) & incoming_right(expected, count)
+}
+
+// ---- the list
 
 // The number of the first rule that is broken, 0 where none is.
 pub fn broken(e: Entry) -> u32
@@ -180,13 +210,15 @@ pub fn broken(e: Entry) -> u32
 {
     let sending = e.sending;
     let receiving = e.receiving;
+    let outgoing = sending.outgoing;
+    let incoming = receiving.incoming;
     let n = octets::then(0, !names_formed(e), 3);
     let n = octets::then(n, !unused_zero(e), 4);
     let n = octets::then(n, !top_odd(e.top), 5);
     let n = octets::then(n, !counts_right(sending.next, receiving.expected), 6);
-    let n = octets::then(n, !idle_right(sending), 7);
-    let n = octets::then(n, !outgoing_right(sending), 8);
-    octets::then(n, !incoming_right(receiving), 9)
+    let n = octets::then(n, !idle_right(sending.phase, sending.next), 7);
+    let n = octets::then(n, !outgoing_right(sending.phase, outgoing.count), 8);
+    octets::then(n, !incoming_right(receiving.expected, incoming.count), 9)
 }
 
 // Whether none is.

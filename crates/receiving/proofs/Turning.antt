@@ -1,18 +1,17 @@
 -- What the steps make of each outcome of a stage.
-use mathlib.Core.Path.{_≡_, refl, sym, ap, _∙_}
+use mathlib.Core.Path.{_≡_, refl, sym, ap}
 use mathlib.Core.Bool.{Bool, true, false, cond, not}
 use mathlib.Core.List.{[]}
 use mathlib.Core.Option.{none, some}
 use Prim.Native.Nat.{ℕ}
 use native.Mathlib.Omega.{arith}
-use lib.Dec.{eqb}
 use borrow.Author.Tests.{eq-eqb, ne-eqb}
 use Rattle.octets.specs.Text.{Text, within}
 use Rattle.csm.specs.Message.{Ksm, Rsm, Esm, legal-body}
 use Rattle.messages.specs.declared.Counts.the-variants.{Without, Both}
 use Rattle.partner.specs.declared.KeySet.{KeySet}
 use Rattle.partner.specs.declared.Entry.{Entry}
-use Rattle.partner.specs.Entry.{limit, waiting, keys-in}
+use Rattle.partner.specs.Entry.{limit, keys-in}
 use Rattle.partner.specs.Changes.{with-receiving, with-sending, accepted, settled}
 use Rattle.partner.specs.Legal.{legal}
 use Rattle.partner.proofs.Keeping.{rules}

@@ -114,12 +114,18 @@ fn receive_esm(e: Entry, m: Esm) -> Turned
     }
 }
 
-// By class; an RSI: 0, the service wanted is returned; an option: 4 with O; no message: 1.
-fn by_class(own: &[u8], e: Entry, text: &[u8], reply: &mut [u8]) -> Turned
-    requires { ⌜ acts.Ready (now own) e (length (now reply)) ⌝ }
-    ensures { λ r. ⌜ r ≡ report.turned (acts.receive-read (now (own .entry)) e (now (text .entry)) (csm.read (now (text .entry)))) ⌝ }
-    ensures { λ r. ⌜ now (reply .exit) ≡ report.replied (acts.receive-read (now (own .entry)) e (now (text .entry)) (csm.read (now (text .entry))) .outcome) (now (reply .entry)) ⌝ }
+// Receive, once the partner's entry is found: 13, 6, 1, then by class; an RSI: 0, the service wanted is returned; an option:
+// 4 with O.
+pub fn receive(own: &[u8], e: Entry, text: &[u8], reply: &mut [u8]) -> Turned
+    ensures { λ r. ⌜ r ≡ report.turned (acts.receive (now (own .entry)) e (length (now (reply .entry))) (now (text .entry))) ⌝ }
+    ensures { λ r. ⌜ now (reply .exit) ≡ report.replied (acts.receive (now (own .entry)) e (length (now (reply .entry))) (now (text .entry)) .outcome) (now (reply .entry)) ⌝ }
 {
+    if !outcome::is_sound(own, e) {
+        return outcome::refused(e, 13);
+    }
+    if reply.len() < calls::ROOM {
+        return outcome::refused(e, 6);
+    }
     let message = reader::read(text);
     match message {
         Message::Rsi(m) => Turned {
@@ -135,18 +141,4 @@ fn by_class(own: &[u8], e: Entry, text: &[u8], reply: &mut [u8]) -> Turned
         },
         Message::Nothing => outcome::refused(e, 1),
     }
-}
-
-// Receive, once the partner's entry is found: 13, 6, 1, then by class.
-pub fn receive(own: &[u8], e: Entry, text: &[u8], reply: &mut [u8]) -> Turned
-    ensures { λ r. ⌜ r ≡ report.turned (acts.receive (now (own .entry)) e (length (now (reply .entry))) (now (text .entry))) ⌝ }
-    ensures { λ r. ⌜ now (reply .exit) ≡ report.replied (acts.receive (now (own .entry)) e (length (now (reply .entry))) (now (text .entry)) .outcome) (now (reply .entry)) ⌝ }
-{
-    if !outcome::is_sound(own, e) {
-        return outcome::refused(e, 13);
-    }
-    if reply.len() < calls::ROOM {
-        return outcome::refused(e, 6);
-    }
-    by_class(own, e, text, reply)
 }

@@ -12,3 +12,6 @@ put-whole κs a x y v w p q = (alike (p .count) (q .count), alike (p .text) (q .
 
 pub put-entry : One-outcome fn.put_entry.ended fn.put_entry.Reads.Post
 put-entry κs a x y v w p q = (alike (p .1) (q .1), alike (p .0) (q .0) also refl)
+
+pub is-legal : One-outcome fn.legal.is_legal.ended fn.legal.is_legal.Reads.Post
+is-legal κs a x y v w p q = (alike p q, refl)

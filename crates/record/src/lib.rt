@@ -6,6 +6,10 @@ ghost use Rattle.octets.specs.Number.{bytes};
 ghost use Rattle.octets.specs.Codec.{numeral, _followed-by_, written, value-at};
 ghost use Rattle.octets.specs.Wrote.{Wrote};
 ghost use Rattle.partner.specs.Record as stored;
+
+mod legal;
+
+pub use legal::is_legal;
 use partner::DataKey;
 use partner::Entry;
 use partner::KeySet;
@@ -16,6 +20,19 @@ use partner::TopKey;
 
 // The record's length.
 pub const SIZE: usize = 156;
+
+// Where what follows the identity stands: the top key, the counts, the phase and the two key sets.
+const TOP: usize = 16;
+
+const NEXT: usize = 49;
+
+const EXPECTED: usize = 53;
+
+const PHASE: usize = 57;
+
+const OUTGOING: usize = 58;
+
+const INCOMING: usize = 107;
 
 // ---- reading
 
@@ -99,26 +116,34 @@ fn set_in(s: &[u8], at: usize) -> KeySet
     }
 }
 
+// A top key.
+fn top_in(s: &[u8], at: usize) -> TopKey
+    requires { ⌜ at < 1000 ⌝ }
+    ensures { λ r. ⌜ r ≡ value-at stored.top-layout at (now (s .entry)) ⌝ }
+{
+    TopKey {
+        name: name_in(s, at),
+        form: byte_in(s, at + 16),
+        left: number_in(s, 8, at + 16 + 1),
+        right: number_in(s, 8, at + 16 + 1 + 8),
+    }
+}
+
 // The entry that a record is.
 pub fn entry_in(s: &[u8]) -> Entry
     ensures { λ r. ⌜ r ≡ stored.entry-in (now (s .entry)) ⌝ }
 {
     Entry {
         identity: name_in(s, 0),
-        top: TopKey {
-            name: name_in(s, 16),
-            form: byte_in(s, 32),
-            left: number_in(s, 8, 33),
-            right: number_in(s, 8, 41),
-        },
+        top: top_in(s, TOP),
         sending: Sending {
-            next: count_in(s, 49),
-            phase: byte_in(s, 57),
-            outgoing: set_in(s, 58),
+            next: count_in(s, NEXT),
+            phase: byte_in(s, PHASE),
+            outgoing: set_in(s, OUTGOING),
         },
         receiving: Receiving {
-            expected: count_in(s, 53),
-            incoming: set_in(s, 107),
+            expected: count_in(s, EXPECTED),
+            incoming: set_in(s, INCOMING),
         },
     }
 }

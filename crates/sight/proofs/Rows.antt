@@ -1,6 +1,6 @@
 -- What is seen of a row is what its table has: whether it is legal, and the first slot that is sought.
 use mathlib.Core.Path.{_≡_, refl, sym, ap, _∙_}
-use mathlib.Core.Bool.{Bool, true, false, cond, not, _&&_, _||_}
+use mathlib.Core.Bool.{Bool, true, false, cond, not, _&&_, _||_, and-assoc}
 use mathlib.Core.List.{List, [], _∷_}
 use mathlib.Core.Option.{Option, none, some}
 use Prim.Native.Nat.{ℕ, suc, _+_}
@@ -28,10 +28,6 @@ use Rattle.sight.proofs.Seeing.{kept, renewed}
 and-false : (b : Bool) → b && false ≡ false
 and-false true = refl
 and-false false = refl
-
-and-assoc : (a b c : Bool) → (a && b) && c ≡ a && (b && c)
-and-assoc true b c = refl
-and-assoc false b c = refl
 
 -- a slot's tests, sorted as the table has them
 sorted : (d n q s o a : Bool) → (d && n && q) && (s && (o && a)) ≡ (q && s) && ((n && o) && (d && a))

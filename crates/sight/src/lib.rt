@@ -22,6 +22,13 @@ pub struct Sight {
     pub entry: Entry,
 }
 
+// The part of it that the order of answers asks for.
+pub struct Glance {
+    pub legal: bool,
+    pub taken: bool,
+    pub there: bool,
+}
+
 // What was looked up: the answer so far, the number of the slot, and its entry.
 pub struct Found {
     pub answer: u32,

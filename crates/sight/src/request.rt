@@ -1,4 +1,4 @@
-// The request that 73 bytes are.
+// The request that so many bytes are.
 ghost use mathlib.Core.Path.{_≡_};
 ghost use Prim.Native.Nat.{_+_, _≤_};
 ghost use lib.ListN.{length};
@@ -8,6 +8,9 @@ use calls::Date;
 use calls::KeyRequest;
 use calls::Request;
 use partner::Name;
+
+// How many bytes a request has.
+pub const SIZE: usize = 73;
 
 // A request of no keys: zero throughout.
 fn no_request() -> Request
@@ -55,7 +58,7 @@ fn date_in(s: &[u8], at: usize) -> Date
     Date { digits: digits }
 }
 
-// The request of 73 bytes.
+// The request of that length.
 fn whole_in(s: &[u8]) -> Request
     requires { ⌜ length (now s) ≡ requests.request-size ⌝ }
     ensures { λ r. ⌜ r ≡ requests.whole-in (now (s .entry)) ⌝ }
@@ -71,11 +74,11 @@ fn whole_in(s: &[u8]) -> Request
     }
 }
 
-// The request that the bytes are; of another length than 73 one of no keys.
+// The request that the bytes are; of another length one of no keys.
 pub fn request_in(s: &[u8]) -> Request
     ensures { λ r. ⌜ r ≡ requests.request-in (now (s .entry)) ⌝ }
 {
-    if s.len() != 73 {
+    if s.len() != SIZE {
         return no_request();
     }
     whole_in(s)

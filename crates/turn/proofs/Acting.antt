@@ -10,7 +10,7 @@ use types.Run.{OneOf}
 use denote.Enum.Declared.{tagOf}
 use borrow.Author.Tests.{eq-eqb, ne-eqb}
 use Rattle.octets.specs.Text.{Text, same}
-use Rattle.octets.specs.First.{then, go}
+use Rattle.octets.specs.First.{first, then, go}
 use Rattle.partner.specs.declared.Name.{Name}
 use Rattle.partner.specs.declared.Entry.{Entry}
 use Rattle.calls.specs.Outcome.{Turn, nothing, refused, done}
@@ -25,47 +25,47 @@ use Rattle.sight.specs.declared.aims.Act.the-variants.{Receive, BuildKsm, Build
 use Rattle.sight.proofs.aims.Act.{the-type as act-type}
 use Rattle.sight.specs.declared.aims.Aim.{Aim}
 use Rattle.sight.specs.declared.Sight.{Sight}
-use Rattle.turn.specs.Way.{unfit, looking-up, by-act, refusal, turn, take}
+use Rattle.sight.specs.declared.Glance.{Glance}
+use Rattle.turn.specs.Way.{unfit, looking-up, by-act, order, refusal, turn, take}
 
 -- ---- the order
 
-module _ (a : Aim) (s : Sight) where
-  pub malformed-unfit : not (a .theirs) ≡ true → true ≡ unfit a s
+module _ (a : Aim) (g : Glance) where
+  pub malformed-unfit : not (a .theirs) ≡ true → true ≡ unfit a g
   unfolding unfit
-  malformed-unfit h = sym (ap (λ (b : Bool). b || (s .taken || same (a .own .bytes) (a .partner .bytes))) h)
+  malformed-unfit h = sym (ap (λ (b : Bool). b || (g .taken || same (a .own .bytes) (a .partner .bytes))) h)
 
   module _ (h : not (a .theirs) ≡ false) where
-    pub taken-unfit : s .taken ≡ true → true ≡ unfit a s
+    pub taken-unfit : g .taken ≡ true → true ≡ unfit a g
     unfolding unfit
     taken-unfit k =
-        sym (ap (λ (b : Bool). b || (s .taken || same (a .own .bytes) (a .partner .bytes))) h
+        sym (ap (λ (b : Bool). b || (g .taken || same (a .own .bytes) (a .partner .bytes))) h
         ∙ ap (λ (b : Bool). b || same (a .own .bytes) (a .partner .bytes)) k)
 
-    pub own-unfit : s .taken ≡ false → same (a .own .bytes) (a .partner .bytes) ≡ unfit a s
+    pub own-unfit : g .taken ≡ false → same (a .own .bytes) (a .partner .bytes) ≡ unfit a g
     unfolding unfit
     own-unfit k =
-        sym (ap (λ (b : Bool). b || (s .taken || same (a .own .bytes) (a .partner .bytes))) h
+        sym (ap (λ (b : Bool). b || (g .taken || same (a .own .bytes) (a .partner .bytes))) h
         ∙ ap (λ (b : Bool). b || same (a .own .bytes) (a .partner .bytes)) k)
 
 -- the act that is asked for
-pub orders-as : {x : Act} (a : Aim) (s : Sight) (q : Act) (text : Text) (room n : ℕ)
-    → n ≡ then (then 0 (not (s .legal)) 13) (ltb room (a .room)) 6 → q ≡ x
-    → go n (by-act x a s text) ≡ refusal a s q text room
-unfolding refusal
-orders-as {x} a s q text room n p h =
-    ap (λ (m : ℕ). go m (by-act x a s text)) p
-    ∙ ap (λ (y : Act). go (then (then 0 (not (s .legal)) 13) (ltb room (a .room)) 6) (by-act y a s text)) (sym h)
+pub orders-as : {x : Act} (a : Aim) (g : Glance) (q : Act) (text : Text) (room n : ℕ)
+    → n ≡ then (then 0 (not (g .legal)) 13) (ltb room (a .room)) 6 → q ≡ x
+    → go n (by-act x a g text) ≡ first (order a g q text room)
+orders-as {x} a g q text room n p h =
+    ap (λ (m : ℕ). go m (by-act x a g text)) p
+    ∙ ap (λ (y : Act). go (then (then 0 (not (g .legal)) 13) (ltb room (a .room)) 6) (by-act y a g text)) (sym h)
 
 -- any but a load, as the code tells them apart
-pub no-load : (x : Act) → OneOf (0 ∷ 1 ∷ 2 ∷ 3 ∷ 4 ∷ 5 ∷ []) (tagOf act-type x) → (a : Aim) (s : Sight) (text : Text) (n : ℕ)
-    → go n (looking-up a s) ≡ go n (by-act x a s text)
-no-load Receive k a s text n = refl
-no-load BuildKsm k a s text n = refl
-no-load BuildRsi k a s text n = refl
-no-load GiveUp k a s text n = refl
-no-load Remove k a s text n = refl
-no-load Ask k a s text n = refl
-no-load (Load top) k a s text n = absurd (none-is k)
+pub no-load : (x : Act) → OneOf (0 ∷ 1 ∷ 2 ∷ 3 ∷ 4 ∷ 5 ∷ []) (tagOf act-type x) → (a : Aim) (g : Glance) (text : Text) (n : ℕ)
+    → go n (looking-up a g) ≡ go n (by-act x a g text)
+no-load Receive k a g text n = refl
+no-load BuildKsm k a g text n = refl
+no-load BuildRsi k a g text n = refl
+no-load GiveUp k a g text n = refl
+no-load Remove k a g text n = refl
+no-load Ask k a g text n = refl
+no-load (Load top) k a g text n = absurd (none-is k)
   where
     none-is : OneOf (0 ∷ 1 ∷ 2 ∷ 3 ∷ 4 ∷ 5 ∷ []) 6 → ⊥
     none-is k =

@@ -34,7 +34,7 @@ use Rattle.sight.specs.Table.{table}
 use Rattle.sight.proofs.Rows.{first}
 use Rattle.sight.proofs.Finding.{first-named, first-unnamed, putting-named}
 use Rattle.sight.proofs.Sees.{Sees, keeps}
-use Rattle.turn.specs.Way.{looking-up, by-act, refusal, turn, take}
+use Rattle.turn.specs.Way.{looking-up, by-act, glance, refusal, turn, take}
 use Rattle.turn.proofs.Acting.{way-refused, way-turned}
 use Rattle.turn.proofs.Answers.{gives-13, gives-6, gives-further, looks-answer, looks-3, looks-0}
 
@@ -72,19 +72,19 @@ module _ (own : Text) (slots : List Entry) where
       -- at the partner's entry: 3, else its turn
       module _ (named : is-name own ≡ true) (lawful : legal t ≡ true) (id : Text) (f : Entry → Turn)
           (v : a .vacant ≡ false) (i : a .theirs ≡ is-name id) (p : a .partner .bytes ≡ filled id) (n : a .answer ≡ 0)
-          (o : by-act q a s text ≡ looking-up a s) (roomy : ltb room (a .room) ≡ false)
+          (o : by-act q a (glance s) text ≡ looking-up a (glance s)) (roomy : ltb room (a .room) ≡ false)
           (turning : (e : Entry) → partner.legal e ≡ true → turn own (a .partner) e q text room ≡ f e) where
-        looks : orders.first (looking-up a s) ≡ refusal a s q text room
+        looks : orders.first (looking-up a (glance s)) ≡ refusal a s q text room
         looks = sym (ap orders.first o) ∙ gives-further a s q text room l roomy
 
         missed : first (is-sought a) slots ≡ none → Ended (refuse t 3)
-        missed h = refuses 3 (looks-3 a s n (z .missed l h .0) ∙ looks) (λ z. absurd (omega arith))
+        missed h = refuses 3 (looks-3 a (glance s) n (z .missed l h .0) ∙ looks) (λ z. absurd (omega arith))
 
         hit : (e : Entry) → is-name id ≡ true → find (filled id) slots ≡ some e → Ended (every.after-turn t id f (some e))
         hit e m h =
             let k = z .found l e (first-named a id v i p slots m ∙ h) in
             let good = held-legal t id e lawful (held t id e m h) in
-            let r : take own a s q text room ≡ f e = way-turned own a s q text room 0 (looks-0 a s n (k .0) ∙ looks) refl
+            let r : take own a s q text room ≡ f e = way-turned own a s q text room 0 (looks-0 a (glance s) n (k .0) ∙ looks) refl
             ∙ ap (λ (x : Entry). turn own (a .partner) x q text room) (k .1) ∙ turning e good in (
               ap (λ (r : Turn). r .outcome) r,
               ap (λ (r : Turn). set slots (s .at) (r .entry)) r ∙ k .2 (f e .entry)
@@ -129,7 +129,7 @@ module _ (own : Text) (slots : List Entry) where
     receiving s text room l h none e z =
         let a = with-room (nobody own 1) 256 in
         refuses a s z Receive text room 1
-        (looks-answer a s (λ z. absurd (omega arith)) ∙ gives-further a s Receive text room l h) (λ z. absurd (omega arith))
+        (looks-answer a (glance s) (λ z. absurd (omega arith)) ∙ gives-further a s Receive text room l h) (λ z. absurd (omega arith))
     receiving s text room l h (some r) e z = by-rcv (same (r .rcv) own) refl z
       where
         w : Entry → Turn
@@ -158,7 +158,7 @@ module _ (own : Text) (slots : List Entry) where
             (sym k) (λ z.
             subst (Ends s (take own a s Receive text room)) (sym (if-true (not (same (r .rcv) (bare (t .own)))) _ _ (ap not (known ∙ k))))
             (refuses a s z Receive text room 2
-            (looks-answer a s (λ z. absurd (omega arith)) ∙ gives-further a s Receive text room l h) (λ z. absurd (omega arith))))
+            (looks-answer a (glance s) (λ z. absurd (omega arith)) ∙ gives-further a s Receive text room l h) (λ z. absurd (omega arith))))
         by-rcv true k =
             let a = with-room (at-partner own (r .org)) 256 in
             subst (λ (b : Bool). Sees own slots (with-room (cond (not b) (nobody own 2) (at-partner own (r .org))) 256) s

@@ -31,7 +31,7 @@ use Rattle.sight.specs.Sight.{is-theirs, is-sought}
 use Rattle.sight.proofs.Rows.{first}
 use Rattle.sight.proofs.Finding.{none-free, one-free}
 use Rattle.sight.proofs.Sees.{any-theirs, Sees}
-use Rattle.turn.specs.Way.{unfit, loading, refusal, turn, take}
+use Rattle.turn.specs.Way.{unfit, loading, glance, refusal, turn, take}
 use Rattle.turn.proofs.Acting.{way-turned}
 use Rattle.turn.proofs.Answers.{gives-further, loads-10, loads-12, loads-11, loads-9, loads-0}
 use Rattle.turn.proofs.Ends.{t, Ends, refuses}
@@ -62,7 +62,7 @@ module _ (own id : Text) (named : is-name id ≡ true) where
 
 -- 10 exactly where the table gives it
 unfit-is : (own id : Text) (slots : List Entry) (s : Sight) → s .taken ≡ any-theirs (at-free-slot own id) slots
-    → unfit (at-free-slot own id) s ≡ not (is-name id && differs (filled id) (filled own ∷ identities slots))
+    → unfit (at-free-slot own id) (glance s) ≡ not (is-name id && differs (filled id) (filled own ∷ identities slots))
 unfolding unfit
 unfit-is own id slots s k = by-name (is-name id) refl
   where
@@ -100,53 +100,53 @@ module _ (own : Text) (slots : List Entry) (s : Sight) (id name : Text) (top : T
   abbrev Loads : After → Type 0
   Loads w = Ends own slots s (take own a s asks name room) w
 
-  order : orders.first (loading a s (is-name name) (odd-top top)) ≡ refusal a s asks name room
+  order : orders.first (loading a (glance s) (is-name name) (odd-top top)) ≡ refusal a s asks name room
   order = gives-further a s asks name room l roomy
 
-  refused : (n : ℕ) → n ≡ orders.first (loading a s (is-name name) (odd-top top)) → (n ≡ 0 → ⊥) → Loads (refuse (t own slots) n)
+  refused : (n : ℕ) → n ≡ orders.first (loading a (glance s) (is-name name) (odd-top top)) → (n ≡ 0 → ⊥) → Loads (refuse (t own slots) n)
   refused n e h = refuses own slots a s z asks name room n (e ∙ order) h
 
-  module _ (u : unfit a s ≡ false) (n : is-name name ≡ true) (o : odd-top top ≡ true) where
+  module _ (u : unfit a (glance s) ≡ false) (n : is-name name ≡ true) (o : odd-top top ≡ true) where
     placed : (f : Option Entry) → first is-empty slots ≡ f → Loads (every.after-load (t own slots) (into-free-slot x slots))
     unfolding is-sought turn
     placed none h =
         subst (λ (p : Option (List Entry)). Loads (every.after-load (t own slots) p)) (sym (none-free x slots h))
-        (refused 9 (loads-9 a s (is-name name) (odd-top top) u n o (z .missed l h .0)) (λ z. absurd (omega arith)))
+        (refused 9 (loads-9 a (glance s) (is-name name) (odd-top top) u n o (z .missed l h .0)) (λ z. absurd (omega arith)))
     placed (some f) h =
         let k = z .found l f h in
-        let d = way-turned own a s asks name room 0 (loads-0 a s (is-name name) (odd-top top) u n o (k .0) ∙ order) refl in
+        let d = way-turned own a s asks name room 0 (loads-0 a (glance s) (is-name name) (odd-top top) u n o (k .0) ∙ order) refl in
         subst (λ (p : Option (List Entry)). Loads (every.after-load (t own slots) p)) (sym (one-free x slots f h))
         (ap (λ (r : Turn). r .outcome) d, ap (λ (r : Turn). set slots (s .at) (r .entry)) d ∙ k .2 x)
 
   pub loads : Loads (every.loading (t own slots) id name top)
   unfolding every.loading
-  loads = by-identity (unfit a s) refl
+  loads = by-identity (unfit a (glance s)) refl
     where
-      taken : unfit a s ≡ not (is-name id && differs (filled id) (filled own ∷ identities slots))
+      taken : unfit a (glance s) ≡ not (is-name id && differs (filled id) (filled own ∷ identities slots))
       taken = unfit-is own id slots s (z .taken l refl)
 
-      by-key : unfit a s ≡ false → is-name name ≡ true → (b : Bool) → odd-top top ≡ b
+      by-key : unfit a (glance s) ≡ false → is-name name ≡ true → (b : Bool) → odd-top top ≡ b
           → Loads (if not (odd-top top) then refuse (t own slots) 11 else every.after-load (t own slots) (into-free-slot x slots))
       by-key u n true o = subst Loads (sym (if-false (not (odd-top top)) _ _ (ap not o))) (placed u n o (first is-empty slots) refl)
       by-key u n false o =
           subst Loads (sym (if-true (not (odd-top top)) _ _ (ap not o)))
-          (refused 11 (loads-11 a s (is-name name) (odd-top top) u n o) (λ z. absurd (omega arith)))
+          (refused 11 (loads-11 a (glance s) (is-name name) (odd-top top) u n o) (λ z. absurd (omega arith)))
 
-      by-name : unfit a s ≡ false → (b : Bool) → is-name name ≡ b
+      by-name : unfit a (glance s) ≡ false → (b : Bool) → is-name name ≡ b
           → Loads (if not (is-name name) then refuse (t own slots) 12 else
           if not (odd-top top) then refuse (t own slots) 11 else every.after-load (t own slots) (into-free-slot x slots))
       by-name u true n = subst Loads (sym (if-false (not (is-name name)) _ _ (ap not n))) (by-key u n (odd-top top) refl)
       by-name u false n =
           subst Loads (sym (if-true (not (is-name name)) _ _ (ap not n)))
-          (refused 12 (loads-12 a s (is-name name) (odd-top top) u n) (λ z. absurd (omega arith)))
+          (refused 12 (loads-12 a (glance s) (is-name name) (odd-top top) u n) (λ z. absurd (omega arith)))
 
-      by-identity : (b : Bool) → unfit a s ≡ b
+      by-identity : (b : Bool) → unfit a (glance s) ≡ b
           → Loads (if not (is-name id && differs (filled id) (filled own ∷ identities slots)) then refuse (t own slots) 10 else
           if not (is-name name) then refuse (t own slots) 12 else
           if not (odd-top top) then refuse (t own slots) 11 else every.after-load (t own slots) (into-free-slot x slots))
       by-identity true u =
           subst Loads (sym (if-true (not (is-name id && differs (filled id) (filled own ∷ identities slots))) _ _ (sym taken ∙ u)))
-          (refused 10 (loads-10 a s (is-name name) (odd-top top) u) (λ z. absurd (omega arith)))
+          (refused 10 (loads-10 a (glance s) (is-name name) (odd-top top) u) (λ z. absurd (omega arith)))
       by-identity false u =
           subst Loads (sym (if-false (not (is-name id && differs (filled id) (filled own ∷ identities slots))) _ _ (sym taken ∙ u)))
           (by-name u (is-name name) refl)

@@ -24,12 +24,13 @@ use Rattle.sight.specs.declared.aims.Act.{Act}
 use Rattle.sight.specs.declared.aims.Act.the-variants.{Receive, BuildKsm, BuildRsi, GiveUp, Remove, Ask, Load}
 use Rattle.sight.specs.declared.aims.Aim.{Aim}
 use Rattle.sight.specs.declared.Sight.{Sight}
+use Rattle.sight.specs.declared.Glance.{Glance}
 use Rattle.sight.specs.Aim.{with-room, aim-of}
 use Rattle.sight.specs.Asked.{call-of}
 use Rattle.sight.specs.Request.{request-in}
 use Rattle.sight.specs.Table.{over-row}
 use Rattle.sight.proofs.Sees.{Sees}
-use Rattle.turn.specs.Way.{unfit, by-act, refusal, turn, take}
+use Rattle.turn.specs.Way.{unfit, by-act, glance, refusal, turn, take}
 use Rattle.turn.proofs.Answers.{gives-13, gives-6, gives-further}
 use Rattle.turn.proofs.Acting.{way-refused}
 use Rattle.turn.proofs.Ends.{t, Ends, unlawful, roomed, at-entry, ours, opened, receiving}
@@ -105,15 +106,15 @@ way-ends own slots q who text room s z = ends own slots s q who text room z
 -- ---- another room
 
 -- the tests after 6 ask for none
-same-further : (x : Act) (a : Aim) (s : Sight) (text : Text) (room : ℕ) → by-act x (with-room a room) s text ≡ by-act x (with-room a 0) s text
+same-further : (x : Act) (a : Aim) (g : Glance) (text : Text) (room : ℕ) → by-act x (with-room a room) g text ≡ by-act x (with-room a 0) g text
 unfolding unfit
-same-further Receive a s text room = refl
-same-further BuildKsm a s text room = refl
-same-further BuildRsi a s text room = refl
-same-further GiveUp a s text room = refl
-same-further Remove a s text room = refl
-same-further Ask a s text room = refl
-same-further (Load top) a s text room = refl
+same-further Receive a g text room = refl
+same-further BuildKsm a g text room = refl
+same-further BuildRsi a g text room = refl
+same-further GiveUp a g text room = refl
+same-further Remove a g text room = refl
+same-further Ask a g text room = refl
+same-further (Load top) a g text room = refl
 
 -- a way by its refusal
 abbrev taking : Text → Name → Entry → Act → Text → ℕ → ℕ → Turn
@@ -139,7 +140,7 @@ way-roomed own a s q text asks room = by-legal (s .legal) refl
 
     refuses-same : s .legal ≡ true → ltb room asks ≡ false → refusal b s q text room ≡ refusal (with-room a 0) s q text room
     refuses-same l h =
-        sym (gives-further b s q text room l h) ∙ ap first (same-further q a s text asks)
+        sym (gives-further b s q text room l h) ∙ ap first (same-further q a (glance s) text asks)
         ∙ gives-further (with-room a 0) s q text room l (roomless room)
 
     same-way : s .legal ≡ true → ltb room asks ≡ false → take own b s q text room ≡ take own (with-room a 0) s q text room

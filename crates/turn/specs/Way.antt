@@ -18,37 +18,42 @@ use Rattle.sight.specs.declared.aims.Act.{Act}
 use Rattle.sight.specs.declared.aims.Act.the-variants.{Receive, BuildKsm, BuildRsi, GiveUp, Remove, Ask, Load}
 use Rattle.sight.specs.declared.aims.Aim.{Aim}
 use Rattle.sight.specs.declared.Sight.{Sight}
+use Rattle.sight.specs.declared.Glance.{Glance}
 use Rattle.sight.specs.Request.{request-in}
 
 -- ---- the order of the answers
 
 -- an identity malformed, our own, or taken
-unfoldable pub unfit : Aim → Sight → Bool
-unfit a s = not (a .theirs) || (s .taken || same (a .own .bytes) (a .partner .bytes))
+unfoldable pub unfit : Aim → Glance → Bool
+unfit a g = not (a .theirs) || (g .taken || same (a .own .bytes) (a .partner .bytes))
 
 -- of a load: 10, 12, 11, 9
-abbrev pub loading : Aim → Sight → Bool → Bool → Order
-loading a s named odd = (unfit a s, 10) ∷ (not named, 12) ∷ (not odd, 11) ∷ (not (s .there), 9) ∷ []
+abbrev pub loading : Aim → Glance → Bool → Bool → Order
+loading a g named odd = (unfit a g, 10) ∷ (not named, 12) ∷ (not odd, 11) ∷ (not (g .there), 9) ∷ []
 
 -- of a call about an entry that is there: 1 or 2 of a text, then 3
-abbrev pub looking-up : Aim → Sight → Order
-looking-up a s = (not (eqb (a .answer) 0), a .answer) ∷ (not (s .there), 3) ∷ []
+abbrev pub looking-up : Aim → Glance → Order
+looking-up a g = (not (eqb (a .answer) 0), a .answer) ∷ (not (g .there), 3) ∷ []
 
-abbrev pub by-act : Act → Aim → Sight → Text → Order
-by-act Receive a s text = looking-up a s
-by-act BuildKsm a s text = looking-up a s
-by-act BuildRsi a s text = looking-up a s
-by-act GiveUp a s text = looking-up a s
-by-act Remove a s text = looking-up a s
-by-act Ask a s text = looking-up a s
-by-act (Load top) a s text = loading a s (is-name text) (odd-top top)
+abbrev pub by-act : Act → Aim → Glance → Text → Order
+by-act Receive a g text = looking-up a g
+by-act BuildKsm a g text = looking-up a g
+by-act BuildRsi a g text = looking-up a g
+by-act GiveUp a g text = looking-up a g
+by-act Remove a g text = looking-up a g
+by-act Ask a g text = looking-up a g
+by-act (Load top) a g text = loading a g (is-name text) (odd-top top)
 
 -- 13, 6, then by what is asked
-abbrev pub order : Aim → Sight → Act → Text → ℕ → Order
-order a s act text room = (not (s .legal), 13) ∷ (ltb room (a .room), 6) ∷ by-act act a s text
+abbrev pub order : Aim → Glance → Act → Text → ℕ → Order
+order a g act text room = (not (g .legal), 13) ∷ (ltb room (a .room), 6) ∷ by-act act a g text
+
+-- what it asks of what is seen
+abbrev pub glance : Sight → Glance
+glance s = record { legal = s .legal; taken = s .taken; there = s .there }
 
 unfoldable pub refusal : Aim → Sight → Act → Text → ℕ → ℕ
-refusal a s q text room = first (order a s q text room)
+refusal a s q text room = first (order a (glance s) q text room)
 
 -- ---- the turn of one entry
 

@@ -2,13 +2,14 @@
 ghost use mathlib.Core.Path.{_≡_};
 ghost use mathlib.Core.List.{[]};
 ghost use lib.ListN.{length};
-ghost use Rattle.octets.specs.First.{go};
+ghost use Rattle.octets.specs.First.{first, go};
 ghost use Rattle.calls.specs.Outcome as calls;
 ghost use Rattle.outcome.specs.Report as report;
 ghost use Rattle.turn.specs.Way as way;
 use outcome::Turned;
 use partner::Entry;
 use partner::Name;
+use sight::Glance;
 use sight::Sight;
 use sight::aims::Act;
 use sight::aims::Aim;
@@ -17,13 +18,13 @@ use sight::request;
 // ---- the order of the answers
 
 // Whether an identity is malformed, our own, or taken.
-fn unfit(aim: Aim, seen: Sight) -> bool
-    ensures { λ r. ⌜ r ≡ way.unfit aim seen ⌝ }
+fn unfit(aim: Aim, glance: Glance) -> bool
+    ensures { λ r. ⌜ r ≡ way.unfit aim glance ⌝ }
 {
     if !aim.theirs {
         return true;
     }
-    if seen.taken {
+    if glance.taken {
         return true;
     }
     let own = aim.own;
@@ -32,32 +33,32 @@ fn unfit(aim: Aim, seen: Sight) -> bool
 }
 
 // Of a load: 10, 12, 11, 9.
-fn loading(before: u32, aim: Aim, seen: Sight, named: bool, odd: bool) -> u32
-    ensures { λ r. ⌜ r ≡ go before (way.loading aim seen named odd) ⌝ }
+fn loading(before: u32, aim: Aim, glance: Glance, named: bool, odd: bool) -> u32
+    ensures { λ r. ⌜ r ≡ go before (way.loading aim glance named odd) ⌝ }
 {
-    let a = octets::then(before, unfit(aim, seen), 10);
+    let a = octets::then(before, unfit(aim, glance), 10);
     let b = octets::then(a, !named, 12);
     let c = octets::then(b, !odd, 11);
-    octets::then(c, !seen.there, 9)
+    octets::then(c, !glance.there, 9)
 }
 
 // Of a call about an entry that is there: 1 or 2 of a text, then 3.
-fn looking_up(before: u32, aim: Aim, seen: Sight) -> u32
-    ensures { λ r. ⌜ r ≡ go before (way.looking-up aim seen) ⌝ }
+fn looking_up(before: u32, aim: Aim, glance: Glance) -> u32
+    ensures { λ r. ⌜ r ≡ go before (way.looking-up aim glance) ⌝ }
 {
     let a = octets::then(before, aim.answer != 0, aim.answer);
-    octets::then(a, !seen.there, 3)
+    octets::then(a, !glance.there, 3)
 }
 
 // The refusal that comes before the turn, or 0: 13, 6, then by what is asked.
-pub fn refusal(aim: Aim, seen: Sight, act: Act, text: &[u8], room: usize) -> u32
-    ensures { λ r. ⌜ r ≡ way.refusal aim seen act (now (text .entry)) room ⌝ }
+pub fn refusal(aim: Aim, glance: Glance, act: Act, text: &[u8], room: usize) -> u32
+    ensures { λ r. ⌜ r ≡ first (way.order aim glance act (now (text .entry)) room) ⌝ }
 {
-    let a = octets::then(0, !seen.legal, 13);
+    let a = octets::then(0, !glance.legal, 13);
     let b = octets::then(a, room < aim.room, 6);
     match act {
-        Act::Load(top) => loading(b, aim, seen, octets::is_name(text), keying::odd_top(top)),
-        _ => looking_up(b, aim, seen),
+        Act::Load(top) => loading(b, aim, glance, octets::is_name(text), keying::odd_top(top)),
+        _ => looking_up(b, aim, glance),
     }
 }
 
@@ -96,7 +97,12 @@ pub fn take(own: &[u8], aim: Aim, seen: Sight, act: Act, text: &[u8], reply: &mu
 {
     let entry = seen.entry;
     let partner = aim.partner;
-    let answer = refusal(aim, seen, act, text, reply.len());
+    let glance = Glance {
+        legal: seen.legal,
+        taken: seen.taken,
+        there: seen.there,
+    };
+    let answer = refusal(aim, glance, act, text, reply.len());
     if answer != 0 {
         return outcome::refused(entry, answer);
     }

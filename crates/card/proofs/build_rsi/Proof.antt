@@ -11,15 +11,25 @@ use Rattle.card.proofs.build_rsi.Tie as tie
 returns : tie.Need-returns
 unfolding call-of
 returns c =
-    let a = c .before .before .before .before .before .before .before .before .before .args in
-    written-by BuildRsi (a .image .now) (a .partner .now) (a .contents .now) (a .reply .now) _ _ _ (changed-kept BuildRsi (a .image .now) (a .partner .now) (a .contents .now) (a .reply .now) _ (c .before .before .before .before .aim .ensures) _ (c .before .before .before .find .ensures) (c .before .if1 .taken) _ (c .refusal .ensures))
+    let found = c .before .before .before in
+    let a = found .before .before .before .before .before .before .args in
+    written-by BuildRsi (a .image .now) (a .partner .now) (a .contents .now) (a .reply .now) _ _ _
+    (changed-kept BuildRsi (a .image .now) (a .partner .now) (a .contents .now) (a .reply .now) _
+    (found .before .aim .ensures) _ (found .find .ensures) (c .before .if1 .taken) _ (c .refusal .ensures))
 
 returns-2 : tie.Need-returns-2
 unfolding call-of
 returns-2 c =
-    let a = c .before .before .before .before .before .before .before .before .before .before .before .before .before .before .before .args in
-    let own = c .before .before .before .before .before .bare .ensures ∙ ap bare (c .before .before .before .before .before .before .own-identity .ensures) in
-    written-by BuildRsi (a .image .now) (a .partner .now) (a .contents .now) (a .reply .now) _ _ _ (changed-went BuildRsi (a .image .now) (a .partner .now) (a .contents .now) (a .reply .now) _ (c .before .before .before .before .before .before .before .before .before .before .aim .ensures) _ (c .before .before .before .before .before .before .before .before .before .find .ensures) (c .before .before .before .before .before .before .before .if1 .left) _ own _ _ _ (c .before .before .before .turn .ensures) refl)
+    let turned = c .before .before .before in
+    let seen = turned .before .before in
+    let own = seen .before .bare .ensures ∙ ap bare (seen .before .before .own-identity .ensures) in
+    let went = seen .before .before .before in
+    let found = went .before .before in
+    let a = found .before .before .before .before .before .before .args in
+    written-by BuildRsi (a .image .now) (a .partner .now) (a .contents .now) (a .reply .now) _ _ _
+    (changed-went BuildRsi (a .image .now) (a .partner .now) (a .contents .now) (a .reply .now) _
+    (found .before .aim .ensures) _ (found .find .ensures) (went .if1 .left) _ own _ (seen .slot .ensures) _ _ _
+    (turned .turn .ensures) refl)
 
 pub build-rsi-spec : {M : Type 1} → statement M
 build-rsi-spec =
@@ -29,6 +39,7 @@ build-rsi-spec =
     (λ c κs. search needs)
     (λ c κs. search needs)
     returns
+    (λ c κs. search needs)
     (λ c κs. search needs)
     (λ c κs. search needs)
     (λ c κs. search needs)

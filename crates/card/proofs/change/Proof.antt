@@ -8,14 +8,24 @@ use Rattle.card.proofs.change.Tie as tie
 
 returns : tie.Need-returns
 returns c =
-    let a = c .before .before .before .before .before .before .before .before .before .before .before .args in
-    changed-kept (a .act) (a .image .now) (a .who .now) (a .text .now) (a .reply .now) _ (c .before .before .before .before .before .aim .ensures) _ (c .before .before .before .find .ensures) (c .before .if1 .taken) _ (c .refusal .ensures)
+    let found = c .before .before .before in
+    let aimed = found .before .before in
+    let a = aimed .before .before .before .before .before .before .args in
+    changed-kept (a .act) (a .image .now) (a .who .now) (a .text .now) (a .reply .now) _ (aimed .aim .ensures) _
+    (found .find .ensures) (c .before .if1 .taken) _ (c .refusal .ensures)
 
 returns-2 : tie.Need-returns-2
 returns-2 c =
-    let a = c .before .before .before .before .before .before .before .before .before .before .before .before .before .before .before .before .before .before .before .before .before .before .args in
-    let own = c .before .before .before .before .before .before .before .before .before .bare .ensures ∙ ap bare (c .before .before .before .before .before .before .before .before .before .before .own-identity .ensures) in
-    changed-went (a .act) (a .image .now) (a .who .now) (a .text .now) (a .reply .now) _ (c .before .before .before .before .before .before .before .before .before .before .before .before .before .before .before .before .aim .ensures) _ (c .before .before .before .before .before .before .before .before .before .before .before .before .before .before .find .ensures) (c .before .before .before .before .before .before .before .before .before .before .before .before .if1 .left) _ own _ _ _ (c .before .before .before .before .before .before .before .turn .ensures) (c .before .before .before .put-slot .ensures)
+    let turned = c .before .before .before .before .before .before .before in
+    let seen = turned .before .before in
+    let own = seen .before .bare .ensures ∙ ap bare (seen .before .before .own-identity .ensures) in
+    let went = seen .before .before .before .before in
+    let found = went .before .before in
+    let aimed = found .before .before in
+    let a = aimed .before .before .before .before .before .before .args in
+    changed-went (a .act) (a .image .now) (a .who .now) (a .text .now) (a .reply .now) _ (aimed .aim .ensures) _
+    (found .find .ensures) (went .if1 .left) _ own _ (seen .slot .ensures) _ _ _ (turned .turn .ensures)
+    (c .before .before .before .put-slot .ensures)
 
 pub change-spec : {M : Type 1} → statement M
 change-spec =
@@ -26,6 +36,7 @@ change-spec =
     (λ c κs. search needs)
     (λ c. search needs)
     returns
+    (λ c κs. search needs)
     (λ c κs. search needs)
     (λ c κs. search needs)
     (λ c κs. search needs)

@@ -1,7 +1,4 @@
 -- `card::start` meets its contract: 6, 10, else the first image. Assumes nothing.
-use mathlib.Core.Path.{refl, ap, sym, _∙_}
-use lib.ListN.{length}
-use Rattle.octets.specs.Text.{Text}
 use Rattle.card.proofs.Starting.{start-refused, start-written}
 use borrow.Author.Needs.{needs}
 use Rattle.card.proofs.start.Statement.{statement}

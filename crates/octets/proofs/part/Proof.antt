@@ -1,6 +1,6 @@
 -- `octets::part` meets its contract: what is left at the span, and of it the first bytes. Assumes nothing.
 use mathlib.Core.Path.{_≡_, sym, ap, _∙_}
-use Prim.Native.Nat.{ℕ, _-_, _≤_}
+use Prim.Native.Nat.{ℕ, _-_}
 use native.Mathlib.Omega.{arith}
 use lib.ListN.{length, take, drop, drop-of-length-le, length-drop}
 use lib.Seq.{length-take-le, take-all}

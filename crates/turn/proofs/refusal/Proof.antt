@@ -14,7 +14,7 @@ use Rattle.turn.proofs.refusal.Tie as tie
 returns : tie.Need-returns
 returns c =
     let a = c .before .before .before .before .before .before .before .before .before .before .before .args in
-    let s = a .seen in
+    let s = a .glance in
     let p = c .before .before .before .before .before .before .then2 .ensures
     ∙ ap (λ (n : ℕ). then n (ltb (a .room) (a .aim .room)) 6) (c .before .before .before .before .before .before .before .before .then .ensures) in
     let n : ℕ = c .before .before .before .before .before .before .then2 .result in
@@ -26,7 +26,7 @@ returns c =
 returns-2 : tie.Need-returns-2
 returns-2 c =
     let a = c .before .before .before .before .before .before .before .args in
-    let s = a .seen in
+    let s = a .glance in
     let p = c .before .before .then2 .ensures
     ∙ ap (λ (n : ℕ). then n (ltb (a .room) (a .aim .room)) 6) (c .before .before .before .before .then .ensures) in
     let n : ℕ = c .before .before .then2 .result in

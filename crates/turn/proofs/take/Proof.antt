@@ -1,11 +1,13 @@
 -- `turn::take` meets its contract: a refusal, or the turn. Assumes nothing.
 use lib.ListN.{length}
 use borrow.Author.Needs.{needs}
+use Rattle.turn.specs.Way.{refusal}
 use Rattle.turn.proofs.Acting.{gives-as, gives-refusal, way-refused, way-turned}
 use Rattle.turn.proofs.take.Statement.{statement}
 use Rattle.turn.proofs.take.Tie as tie
 
 returns : tie.Need-returns
+unfolding refusal
 returns c =
     let a = c .before .before .before .before .before .before .before .before .args in
     let l = a .reply .now in
@@ -13,6 +15,7 @@ returns c =
     gives-as l p (gives-refusal (a .seen .entry) _ l (c .refused .ensures))
 
 returns-2 : tie.Need-returns-2
+unfolding refusal
 returns-2 c =
     let a = c .before .before .before .before .before .before .before .before .before .before .before .args in
     let l = a .reply .now in

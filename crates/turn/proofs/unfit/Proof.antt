@@ -8,17 +8,17 @@ use Rattle.turn.proofs.unfit.Tie as tie
 returns : tie.Need-returns
 returns c =
     let a = c .before .before .args in
-    malformed-unfit (a .aim) (a .seen) (c .if1 .taken)
+    malformed-unfit (a .aim) (a .glance) (c .if1 .taken)
 
 returns-2 : tie.Need-returns-2
 returns-2 c =
     let a = c .before .before .before .args in
-    taken-unfit (a .aim) (a .seen) (c .before .if1 .left) (c .if2 .taken)
+    taken-unfit (a .aim) (a .glance) (c .before .if1 .left) (c .if2 .taken)
 
 returns-3 : tie.Need-returns-3
 returns-3 c =
     let a = c .before .before .before .before .before .before .before .before .before .before .before .before .args in
-    c .same .ensures ∙ own-unfit (a .aim) (a .seen) (c .before .before .before .before .before .before .before .before .before .before .if1 .left) (c .before .before .before .before .before .before .before .before .before .if2 .left)
+    c .same .ensures ∙ own-unfit (a .aim) (a .glance) (c .before .before .before .before .before .before .before .before .before .before .if1 .left) (c .before .before .before .before .before .before .before .before .before .if2 .left)
 
 pub unfit-spec : {M : Type 1} → statement M
 unfit-spec = tie.close (tie.spec returns returns-2 (λ c κs. search needs) returns-3)

@@ -1,5 +1,5 @@
 -- `card::key::name_with` meets its contract: by the number of the key's bytes.
-use mathlib.Core.Path.{_≡_, sym, ap, _∙_}
+use mathlib.Core.Path.{sym}
 use Rattle.card.proofs.Keys.{key-of-no-length, named-8, named-16, unnamed}
 use borrow.Author.Needs.{needs}
 use Rattle.card.proofs.key.name_with.Statement.{statement}

@@ -1,7 +1,6 @@
 -- `card::seen::theirs` meets its contract: by whether the identity is well-formed.
-use mathlib.Core.Path.{_≡_, sym, ap, _∙_}
+use mathlib.Core.Path.{sym, ap, _∙_}
 use mathlib.Core.Bool.{Bool, cond}
-use Prim.Native.Nat.{ℕ}
 use Rattle.image.specs.Places.{slot-of}
 use Rattle.card.specs.Ways.{theirs}
 use borrow.Author.Needs.{needs}

@@ -6,7 +6,6 @@ use borrow.Author.Needs.{needs}
 use lib.Seq.{length-take-le}
 use Rattle.octets.proofs.Writing.{wrote-rest, wrote-as}
 use Rattle.partner.specs.Record.{entry-bytes}
-use Rattle.image.specs.Image.{partner-size}
 use Rattle.image.specs.Places.{with-partner}
 use Rattle.image.proofs.Buffers.{splice-as}
 use Rattle.image.proofs.records.put_added.Statement.{statement}

@@ -1,13 +1,13 @@
 -- The number so far goes through every rule.
 use mathlib.Core.Path.{refl}
 use borrow.Author.Needs.{needs}
-use Rattle.partner.specs.Legal.{rules, broken}
+use Rattle.partner.specs.Legal.{idle-right, outgoing-right, incoming-right, rules, broken}
 use Rattle.partner.proofs.Ruling.{one-more}
 use Rattle.partner.proofs.rules.broken.Statement.{statement}
 use Rattle.partner.proofs.rules.broken.Tie as tie
 
 returns : tie.Need-returns
-unfolding broken rules
+unfolding broken rules idle-right outgoing-right incoming-right
 returns c =
     let c8 = c .before .before in
     let c7 = c8 .before .before in

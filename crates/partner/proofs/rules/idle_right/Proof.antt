@@ -1,10 +1,8 @@
 -- By the phase.
-use Rattle.partner.specs.Legal.{idle-right}
 use Rattle.partner.proofs.rules.idle_right.Statement.{statement}
 use Rattle.partner.proofs.rules.idle_right.Tie as tie
 
 returns : tie.Need-returns
-unfolding idle-right
 returns c = cc
 
 pub idle-right-spec : {M : Type 1} → statement M

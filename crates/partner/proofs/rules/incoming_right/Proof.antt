@@ -1,11 +1,9 @@
 -- By the expected count.
 use borrow.Author.Needs.{needs}
-use Rattle.partner.specs.Legal.{incoming-right}
 use Rattle.partner.proofs.rules.incoming_right.Statement.{statement}
 use Rattle.partner.proofs.rules.incoming_right.Tie as tie
 
 returns : tie.Need-returns
-unfolding incoming-right
 returns c = cc
 
 pub incoming-right-spec : {M : Type 1} → statement M

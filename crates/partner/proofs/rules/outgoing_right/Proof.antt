@@ -1,11 +1,9 @@
 -- By the phase.
 use borrow.Author.Needs.{needs}
-use Rattle.partner.specs.Legal.{outgoing-right}
 use Rattle.partner.proofs.rules.outgoing_right.Statement.{statement}
 use Rattle.partner.proofs.rules.outgoing_right.Tie as tie
 
 returns : tie.Need-returns
-unfolding outgoing-right
 returns c = cc
 
 pub outgoing-right-spec : {M : Type 1} → statement M

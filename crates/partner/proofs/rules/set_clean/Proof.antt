@@ -1,4 +1,4 @@
--- Key by key.
+-- Place by place.
 use borrow.Author.Needs.{needs}
 use Rattle.partner.specs.Legal.{set-clean}
 use Rattle.partner.proofs.rules.set_clean.Statement.{statement}

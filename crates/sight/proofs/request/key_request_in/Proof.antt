@@ -1,5 +1,5 @@
 -- `sight::request::key_request_in` meets its contract, part by part. Assumes nothing.
-use mathlib.Core.Path.{_≡_, ap, _∙_}
+use mathlib.Core.Path.{ap, _∙_}
 use Prim.Native.Nat.{_+_, _^_, _%_}
 use native.Mathlib.Omega.{arith}
 use Rattle.octets.specs.Text.{Text}
