@@ -32,8 +32,8 @@
  * - Keys and key schedules are left on the stack by a call, and keys may be left in registers. A host that wants them
  *   gone overwrites KHL_STACK bytes of stack after the call, from where it was called; host/bytes.c does so.
  * - A call needs at most KHL_STACK bytes of stack: a test paints the stack and holds every call to that, with 64
- *   partners. Today build a KSM uses 3,728 bytes, receive 3,712, build an RSI 3,168, give up 2,720, the others at most
- *   2,160.
+ *   partners. Today build a KSM uses 3,680 bytes, receive 3,664, build an RSI 2,952, give up 2,688, the others at most
+ *   1,000.
  */
 #ifndef KHLONGSIT_H
 #define KHLONGSIT_H

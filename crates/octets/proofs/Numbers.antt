@@ -88,6 +88,10 @@ pub number-cons : (b : ℕ) (s : Text) → number (b ∷ s) ≡ b * 256 ^ length
 unfolding number
 number-cons b s = ap (λ (m : ℕ). number-after m s) (zero-add b) ∙ number-after-is b s
 
+pub number-join : (s t : Text) → number (s ++ t) ≡ number s * 256 ^ length t + number t
+unfolding number
+number-join s t = number-append 0 s t ∙ number-after-is (number s) t
+
 pub number-below : (s : Text) → all-octets s ≡ true → number s < 256 ^ length s
 unfolding number
 number-below [] e = omega arith

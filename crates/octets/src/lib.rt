@@ -173,17 +173,21 @@ fn wide(b: u8) -> u64
     b as u64
 }
 
-// The number of eight bytes, as a sum that compiles to one load.
+// The number of four bytes, as a sum.
+fn four(s: &[u8]) -> u64
+    requires { ⌜ length (now s) ≡ 4 ⌝ }
+    ensures { λ r. ⌜ r ≡ numbers.number (now (s .entry)) ⌝ }
+    ensures { λ r. ⌜ r < 2 ^ 32 ⌝ }
+{
+    wide(s[0]) * 0x100_0000 + wide(s[1]) * 0x1_0000 + wide(s[2]) * 0x100 + wide(s[3])
+}
+
+// The number of eight bytes; it compiles to one load.
 fn eight(s: &[u8]) -> u64
     requires { ⌜ length (now s) ≡ 8 ⌝ }
     ensures { λ r. ⌜ r ≡ numbers.number (now (s .entry)) ⌝ }
 {
-    let high = wide(s[0]) * 0x100_0000_0000_0000
-        + wide(s[1]) * 0x1_0000_0000_0000
-        + wide(s[2]) * 0x100_0000_0000
-        + wide(s[3]) * 0x1_0000_0000;
-    let low = wide(s[4]) * 0x100_0000 + wide(s[5]) * 0x1_0000 + wide(s[6]) * 0x100 + wide(s[7]);
-    high + low
+    four(&s[..4]) * 0x1_0000_0000 + four(&s[4..])
 }
 
 // Whether s is the sixteen bytes of two numbers.

@@ -12,7 +12,7 @@ use Rattle.partner.specs.declared.Entry.{Entry}
 use Rattle.partner.specs.Entry.{limit}
 use Rattle.partner.specs.Legal.{is-filled, is-named, is-unused, set-named, set-clean, form-clean, top-odd, idle-at-1}
 use Rattle.partner.specs.Legal.{idle-right, count-in-phase, outgoing-right, count-if, incoming-right, legal}
-use Rattle.partner.specs.Legal.{top-right, sending-right, receiving-right, place-formed, set-formed, units-right}
+use Rattle.partner.specs.Units.{top-right, sending-right, receiving-right, place-formed, set-formed, units-right}
 use Rattle.partner.proofs.Keeping.{rules, whole}
 
 -- a set place by place: named where it is used, clean where it is not

@@ -1,5 +1,6 @@
 pub mod Entry
 pub mod Legal
+pub mod Units
 pub mod Changes
 pub mod Record
 pub mod Held

@@ -4,6 +4,7 @@ ghost use mathlib.Core.Bool.{_||_};
 ghost use lib.Dec.{ltb};
 ghost use Rattle.octets.specs.Text.{within, run-char};
 ghost use Rattle.partner.specs.Legal as rule;
+ghost use Rattle.partner.specs.Units as unit;
 use crate::BROKEN;
 use crate::CONFIRMED;
 use crate::DataKey;
@@ -183,21 +184,21 @@ fn incoming_right(expected: u32, count: u8) -> bool
 
 // What the rules ask of a top key.
 pub fn top_right(k: TopKey) -> bool
-    ensures { λ r. ⌜ r ≡ rule.top-right k ⌝ }
+    ensures { λ r. ⌜ r ≡ unit.top-right k ⌝ }
 {
     name_filled(k.name) & form_clean(k) & top_odd(k)
 }
 
 // What they ask of the next send count, the phase and the number of outgoing keys.
 pub fn sending_right(next: u32, phase: u8, count: u8) -> bool
-    ensures { λ r. ⌜ r ≡ rule.sending-right next phase count ⌝ }
+    ensures { λ r. ⌜ r ≡ unit.sending-right next phase count ⌝ }
 {
     within(1, LIMIT, next) & idle_right(phase, next) & outgoing_right(phase, count)
 }
 
 // What they ask of the expected count and the number of incoming keys.
 pub fn receiving_right(expected: u32, count: u8) -> bool
-    ensures { λ r. ⌜ r ≡ rule.receiving-right expected count ⌝ }
+    ensures { λ r. ⌜ r ≡ unit.receiving-right expected count ⌝ }
 {
     within(1, LIMIT, expected) & incoming_right(expected, count)
 }

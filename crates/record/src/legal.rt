@@ -7,11 +7,12 @@ ghost use lib.ListN.{length};
 ghost use Rattle.octets.specs.Codec.{value-at};
 ghost use Rattle.partner.specs.Record as stored;
 ghost use Rattle.partner.specs.Legal as rule;
+ghost use Rattle.partner.specs.Units as unit;
 
 // A key place in use has a name or none, another is zero.
 fn place_formed(s: &[u8], at: usize, used: bool) -> bool
     requires { ⌜ (at + 24 ≤ length (now s)) × (at ≤ 200) ⌝ }
-    ensures { λ r. ⌜ r ≡ rule.place-formed used (value-at stored.place-layout at (now (s .entry))) ⌝ }
+    ensures { λ r. ⌜ r ≡ unit.place-formed used (value-at stored.place-layout at (now (s .entry))) ⌝ }
 {
     let name = at + 8;
     let end = name + 16;
@@ -24,7 +25,7 @@ fn place_formed(s: &[u8], at: usize, used: bool) -> bool
 // Both places of a key set.
 fn set_formed(s: &[u8], at: usize) -> bool
     requires { ⌜ (at + 49 ≤ length (now s)) × (at ≤ 150) ⌝ }
-    ensures { λ r. ⌜ r ≡ rule.set-formed (value-at stored.set-layout at (now (s .entry))) ⌝ }
+    ensures { λ r. ⌜ r ≡ unit.set-formed (value-at stored.set-layout at (now (s .entry))) ⌝ }
 {
     let count = crate::byte_in(s, at);
     place_formed(s, at + 1, 1 <= count) & place_formed(s, at + 1 + 24, 2 <= count)
@@ -33,7 +34,7 @@ fn set_formed(s: &[u8], at: usize) -> bool
 // Identity and top key.
 fn front_right(s: &[u8]) -> bool
     requires { ⌜ stored.entry-size ≤ length (now s) ⌝ }
-    ensures { λ r. ⌜ r ≡ rule.is-filled (stored.entry-in (now (s .entry)) .identity .bytes) && rule.top-right (stored.entry-in (now (s .entry)) .top) ⌝ }
+    ensures { λ r. ⌜ r ≡ rule.is-filled (stored.entry-in (now (s .entry)) .identity .bytes) && unit.top-right (stored.entry-in (now (s .entry)) .top) ⌝ }
 {
     partner::is_filled(&s[..crate::TOP]) & partner::top_right(crate::top_in(s, crate::TOP))
 }

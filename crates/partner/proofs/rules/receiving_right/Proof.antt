@@ -1,6 +1,6 @@
 -- Rule by rule.
 use borrow.Author.Needs.{needs}
-use Rattle.partner.specs.Legal.{receiving-right}
+use Rattle.partner.specs.Units.{receiving-right}
 use Rattle.partner.proofs.rules.receiving_right.Statement.{statement}
 use Rattle.partner.proofs.rules.receiving_right.Tie as tie
 

@@ -1,6 +1,6 @@
 -- Rule by rule.
 use borrow.Author.Needs.{needs}
-use Rattle.partner.specs.Legal.{sending-right}
+use Rattle.partner.specs.Units.{sending-right}
 use Rattle.partner.proofs.rules.sending_right.Statement.{statement}
 use Rattle.partner.proofs.rules.sending_right.Tie as tie
 

@@ -1,6 +1,6 @@
 -- Rule by rule.
 use borrow.Author.Needs.{needs}
-use Rattle.partner.specs.Legal.{top-right}
+use Rattle.partner.specs.Units.{top-right}
 use Rattle.partner.proofs.rules.top_right.Statement.{statement}
 use Rattle.partner.proofs.rules.top_right.Tie as tie
 

@@ -6,7 +6,8 @@ use lib.ListN.{length-take}
 use borrow.Author.Needs.{needs}
 use Rattle.octets.proofs.Parts.{part-cut}
 use Rattle.partner.specs.Record.{entry-in}
-use Rattle.partner.specs.Legal.{is-filled, top-right}
+use Rattle.partner.specs.Legal.{is-filled}
+use Rattle.partner.specs.Units.{top-right}
 use Rattle.record.proofs.legal.front_right.Statement.{statement}
 use Rattle.record.proofs.legal.front_right.Tie as tie
 

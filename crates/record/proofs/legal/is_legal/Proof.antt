@@ -7,7 +7,8 @@ use lib.ListN.{length}
 use borrow.Author.Tests.{le-leb, lt-leb}
 use borrow.Author.Needs.{needs}
 use Rattle.partner.specs.Record.{entry-in}
-use Rattle.partner.specs.Legal.{legal, sending-right, receiving-right, units-right}
+use Rattle.partner.specs.Legal.{legal}
+use Rattle.partner.specs.Units.{sending-right, receiving-right, units-right}
 use Rattle.partner.proofs.Units.{legal-units}
 use Rattle.record.proofs.legal.is_legal.Statement.{statement}
 use Rattle.record.proofs.legal.is_legal.Tie as tie

@@ -4,7 +4,8 @@ use Prim.Native.Nat.{_+_}
 use native.Mathlib.Omega.{arith}
 use borrow.Author.Needs.{needs}
 use Rattle.octets.proofs.Parts.{part-cut}
-use Rattle.partner.specs.Legal.{is-named, is-unused, name-or-none, zero-place, place-formed}
+use Rattle.partner.specs.Legal.{is-named, is-unused, name-or-none, zero-place}
+use Rattle.partner.specs.Units.{place-formed}
 use Rattle.record.proofs.legal.place_formed.Statement.{statement}
 use Rattle.record.proofs.legal.place_formed.Tie as tie
 

@@ -1,6 +1,6 @@
 -- Place by place.
 use borrow.Author.Needs.{needs}
-use Rattle.partner.specs.Legal.{set-formed}
+use Rattle.partner.specs.Units.{set-formed}
 use Rattle.record.proofs.legal.set_formed.Statement.{statement}
 use Rattle.record.proofs.legal.set_formed.Tie as tie
 
