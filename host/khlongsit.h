@@ -32,7 +32,7 @@
  * - Keys and key schedules are left on the stack by a call, and keys may be left in registers. A host that wants them
  *   gone overwrites KHL_STACK bytes of stack after the call, from where it was called; host/bytes.c does so.
  * - A call needs at most KHL_STACK bytes of stack: a test paints the stack and holds every call to that, with 64
- *   partners. Today build a KSM uses 3,680 bytes, receive 3,664, build an RSI 2,952, give up 2,688, the others at most
+ *   partners. Today build a KSM uses 3,712 bytes, receive 3,696, build an RSI 2,984, give up 2,712, the others at most
  *   1,000.
  */
 #ifndef KHLONGSIT_H
