@@ -24,7 +24,7 @@ use Rattle.sight.specs.Aim.{with-room}
 use Rattle.sight.specs.Asked.{call-of}
 use Rattle.turn.specs.Way.{refusal as refusal-of, turn}
 use Rattle.turn.proofs.Acting.{way-refused, way-turned}
-use Rattle.card.specs.declared.Place.{Place}
+use Rattle.card.specs.declared.Lookup.{Lookup}
 use Rattle.card.specs.Over.{outcome-over, Written}
 use Rattle.card.specs.Ways.{ours, aim, blind, sighted, seen, found-in, turn-in, Changed}
 use Rattle.card.proofs.Calling.{outcome-is}
@@ -33,9 +33,9 @@ use Rattle.card.proofs.Whole.{Judged}
 
 -- ---- the way, by what was found
 
-module _ (a : Aim) (image : Text) (q : Act) (text : Text) (room : ℕ) (f : Place) (e : f ≡ found-in a image q text room) where
+module _ (a : Aim) (image : Text) (q : Act) (text : Text) (room : ℕ) (f : Lookup) (e : f ≡ found-in a image q text room) where
   answer-is : f .answer ≡ refusal-of a (seen a image) q text room
-  answer-is = ap (λ (x : Place). x .answer) e
+  answer-is = ap (λ (x : Lookup). x .answer) e
 
   -- refused before the turn
   pub way-kept : (f .answer ≡ 0 → ⊥) → turn-in a image q text room ≡ refused (seen a image .entry) (f .answer)
@@ -48,7 +48,7 @@ module _ (a : Aim) (image : Text) (q : Act) (text : Text) (room : ℕ) (f : Plac
   -- the entry that is turned is that of the slot
   pub entry-is : (x : Entry) → x ≡ getD (slots-in 64 (drop front-size image)) (f .slot) empty → x ≡ seen a image .entry
   unfolding seen
-  entry-is x h = h ∙ ap (λ (y : Place). getD slots (y .slot) empty) e ∙ by-image (found (decode image))
+  entry-is x h = h ∙ ap (λ (y : Lookup). getD slots (y .slot) empty) e ∙ by-image (found (decode image))
     where
       slots : List Entry
       slots = slots-in 64 (drop front-size image)
@@ -59,13 +59,13 @@ module _ (a : Aim) (image : Text) (q : Act) (text : Text) (room : ℕ) (f : Plac
       by-image false = sym (past-64 64 (drop front-size image) (omega arith))
 
 -- found by the call's own aim
-pub found-by : (q : Act) (image who text : Text) (room : ℕ) (a : Aim) (f : Place) → a ≡ aim q image who text
+pub found-by : (q : Act) (image who text : Text) (room : ℕ) (a : Aim) (f : Lookup) → a ≡ aim q image who text
     → f ≡ found-in a image q text room → f ≡ found-in (aim q image who text) image q text room
 found-by q image who text room a f i e = e ∙ ap (λ (x : Aim). found-in x image q text room) i
 
 -- ---- in place
 
-module _ (q : Act) (image who text buffer : Text) (a : Aim) (i : a ≡ aim q image who text) (f : Place)
+module _ (q : Act) (image who text buffer : Text) (a : Aim) (i : a ≡ aim q image who text) (f : Lookup)
     (e : f ≡ found-in a image q text (length buffer)) where
   abbrev b : Aim
   b = aim q image who text
@@ -86,7 +86,7 @@ module _ (q : Act) (image who text buffer : Text) (a : Aim) (i : a ≡ aim q ima
         told = p ∙ ap (λ (u : Turn). report (u .outcome)) (sym w);
         stored =
             sym (ap (λ (x : Bool). cond x (put-slot (seen b image .at) (turn-in b image q text room .entry) image) image)
-            (ap (λ (m : ℕ). eqb m 0) (sym (ap (λ (x : Place). x .answer) g)) ∙ ne-eqb (f .answer) 0 n));
+            (ap (λ (m : ℕ). eqb m 0) (sym (ap (λ (x : Lookup). x .answer) g)) ∙ ne-eqb (f .answer) 0 n));
         reply = ap (λ (u : Turn). replied (u .outcome) buffer) (sym w);
       }
 
@@ -105,10 +105,10 @@ module _ (q : Act) (image who text buffer : Text) (a : Aim) (i : a ≡ aim q ima
       record {
         told = ap (λ (x : Turned). x .report) t;
         stored =
-            p ∙ ap (λ (x : Place). put-slot (x .slot) (w .entry) image) g
+            p ∙ ap (λ (x : Lookup). put-slot (x .slot) (w .entry) image) g
             ∙ ap (λ (x : Turned). put-slot (seen b image .at) (x .entry) image) t
             ∙ sym (ap (λ (x : Bool). cond x (put-slot (seen b image .at) (turn-in b image q text room .entry) image) image)
-            (ap (λ (m : ℕ). eqb m 0) (sym (ap (λ (x : Place). x .answer) g)) ∙ eq-eqb (f .answer) 0 z));
+            (ap (λ (m : ℕ). eqb m 0) (sym (ap (λ (x : Lookup). x .answer) g)) ∙ eq-eqb (f .answer) 0 z));
         reply = k .1 ∙ ap (λ (x : Turn). replied (x .outcome) buffer) u;
       }
 
@@ -123,7 +123,7 @@ written-by q image who text buffer r image′ buffer′ k =
 -- ---- ask, load and remove
 
 -- refused: what was found
-pub refused-end : (o : Outcome) (s buffer : Text) (r : Report) (a : Aim) (image : Text) (q : Act) (text : Text) (f : Place)
+pub refused-end : (o : Outcome) (s buffer : Text) (r : Report) (a : Aim) (image : Text) (q : Act) (text : Text) (f : Lookup)
     → Judged o (turn-in a image q text (length buffer)) s → f ≡ found-in a image q text (length buffer)
     → (f .answer ≡ 0 → ⊥) → r ≡ report (refusal (f .answer)) → Written o buffer r buffer
 refused-end o s buffer r a image q text f j e n p =
@@ -137,7 +137,7 @@ pub aimed-as : (p q : Act) (image who text text′ : Text) (asks : ℕ) (a : Aim
 aimed-as p q image who text text′ asks a e t i =
     i ∙ ap (λ (x : Act). with-room (aim x image who text) asks) e ∙ ap (λ (x : Text). with-room (aim q image who x) asks) t
 
-pub found-as : (p q : Act) (image who text text′ : Text) (asks room : ℕ) (a : Aim) (f : Place) → p ≡ q → text ≡ text′
+pub found-as : (p q : Act) (image who text text′ : Text) (asks room : ℕ) (a : Aim) (f : Lookup) → p ≡ q → text ≡ text′
     → a ≡ with-room (aim p image who text) asks → f ≡ found-in a image p text room
     → f ≡ found-in (with-room (aim q image who text′) asks) image q text′ room
 found-as p q image who text text′ asks room a f e t i k =

@@ -12,12 +12,12 @@ use Rattle.octets.specs.Text.{Text}
 use Rattle.octets.specs.Part.{all-octets}
 use Rattle.octets.specs.Number.{number}
 use Rattle.octets.proofs.Comparing.{octets-part, all-drop}
+use Rattle.octets.proofs.Writing.{rest-is}
 use Rattle.octets.proofs.Numbers.{number-fits}
 use Rattle.keying.specs.declared.Top.{Top}
 use Rattle.keying.specs.declared.Top.the-variants.{Single, Pair}
 use Rattle.csm.proofs.TextLaws.{none-some}
 use Rattle.partner.specs.Changes.{left-of, right-of}
-use Rattle.image.proofs.Buffers.{left-all}
 use Rattle.calls.specs.Words.{if_then_else_}
 use Rattle.calls.proofs.Tests.{if-true, if-false}
 use Rattle.card.specs.Whole.{top-in}
@@ -38,7 +38,7 @@ module _ (key : Text) (octets : all-octets key ≡ true) where
       let a : number (take 8 key) ≡ number (take 8 key) % 2 ^ 64 =
       sym (number-fits (take 8 key) (octets-part key 0 8 octets) (omega (arith, length-take 8 key))) in
       let b : number (drop 8 key) ≡ number (take (length key - 8) (drop 8 key)) % 2 ^ 64 =
-      ap number (sym (left-all key 8))
+      ap number (sym (rest-is 8 key))
       ∙ sym (number-fits (take (length key - 8) (drop 8 key)) (octets-part key 8 (length key - 8) octets)
       (omega (arith, length-take (length key - 8) (drop 8 key)))) in
       if-false (eqb (length key) 8) _ _ (ne-eqb (length key) 8 n)

@@ -23,7 +23,7 @@ use Rattle.sight.specs.declared.aims.Aim.{Aim}
 use Rattle.sight.specs.declared.Sight.{Sight}
 use Rattle.sight.specs.Aim.{aim-of}
 use Rattle.turn.specs.Way.{refusal, take}
-use Rattle.card.specs.declared.Place.{Place}
+use Rattle.card.specs.declared.Lookup.{Lookup}
 use Rattle.card.specs.Whole.{top-in}
 
 -- ---- whom a call is about
@@ -64,7 +64,7 @@ seen a image = cond (not (found (decode image))) blind (sighted a image)
 -- ---- the turn, and the entry put back
 
 -- the refusal that comes before the turn, and the number of the slot
-abbrev pub found-in : Aim → Text → Act → Text → ℕ → Place
+abbrev pub found-in : Aim → Text → Act → Text → ℕ → Lookup
 found-in a image q text room = record {
   answer = refusal a (seen a image) q text room;
   slot = seen a image .at;

@@ -36,17 +36,17 @@ fn aim_in(image: &[u8], who: &[u8], act: Act, text: &[u8], room: usize) -> Aim
 }
 
 // What was looked up: the refusal that comes before the turn, or 0, and the number of the slot that is sought.
-struct Place {
+struct Lookup {
     answer: u32,
     slot: usize,
 }
 
 // The slot that is sought is looked up; of what is no legal image nothing is seen.
-fn find(image: &[u8], aim: Aim, act: Act, text: &[u8], room: usize) -> Place
+fn find(image: &[u8], aim: Aim, act: Act, text: &[u8], room: usize) -> Lookup
     ensures { λ r. ⌜ r ≡ ways.found-in aim (now (image .entry)) act (now (text .entry)) room ⌝ }
 {
     if !image::legal(image) {
-        return Place {
+        return Lookup {
             answer: turn::refusal(aim, seen::nothing(), act, text, room),
             slot: seen::SLOTS,
         };
@@ -58,7 +58,7 @@ fn find(image: &[u8], aim: Aim, act: Act, text: &[u8], room: usize) -> Place
         taken: theirs < seen::SLOTS,
         there: slot < seen::SLOTS,
     };
-    Place {
+    Lookup {
         answer: turn::refusal(aim, glance, act, text, room),
         slot,
     }

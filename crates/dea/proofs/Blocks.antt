@@ -4,8 +4,8 @@ use mathlib.Core.List.{List, [], _∷_, _++_}
 use Prim.Native.Nat.{ℕ, zero, suc, _+_, _-_, _*_, _/_, _^_, _≤_, _<_}
 use native.Mathlib.Numerals.{add-one}
 use native.Mathlib.Omega.{arith}
-use lib.ListN.{length, getD, take, drop, length-take, length-append, length-drop, drop-of-length-le}
-use lib.Seq.{drop-cons, drop-drop, getD-take, take-all}
+use lib.ListN.{length, getD, take, drop, length-take, length-append, drop-of-length-le}
+use lib.Seq.{drop-cons, drop-drop, getD-take}
 use lib.Pow.{pow-add, pow-mono}
 use lib.Bits.{bitXor}
 use Rattle.octets.specs.Text.{Text}
@@ -54,12 +54,6 @@ byte-low b i h hi =
     omega (arith, pow-mono m)
 
 -- ---- the blocks
-
--- a part lent as `&s[at..]`, as the borrow checker has it
-pub lent-rest : (s : Text) (at : ℕ) → take (length s - at) (drop at s) ≡ drop at s
-lent-rest s at =
-    let k : length (drop at s) ≤ length s - at = omega (arith, length-drop at s) in
-    take-all (length s - at) (drop at s) k
 
 next-blocks : (n left next : ℕ) (s : Text) → left ≤ length s → next ≡ left - 8 → n ≡ (next + 7) / 8
     → blocks n (drop 8 (drop (length s - left) s)) ≡ blocks n (drop (length s - next) s)

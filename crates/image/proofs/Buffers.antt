@@ -7,12 +7,12 @@ use Prim.Native.Nat.{ℕ, zero, suc, _+_, _-_, _≤_, _<_}
 use native.Mathlib.Omega.{arith}
 use lib.Dec.{ltb, leb}
 use lib.ListN.{length, take, drop, length-append, length-drop, take-append-drop, drop-of-length-le}
-use lib.Seq.{take-all, drop-drop}
+use lib.Seq.{drop-drop}
 use borrow.Author.Tests.{lt-ltb, le-ltb, le-leb, lt-leb, leb-true, leb-false}
 use Rattle.octets.specs.Text.{Text}
 use Rattle.octets.specs.Number.{copies}
 use Rattle.octets.specs.Wrote.{Wrote}
-use Rattle.octets.proofs.Writing.{wrote-fits}
+use Rattle.octets.proofs.Writing.{wrote-fits, rest-is}
 use Rattle.partner.specs.declared.Name.{Name}
 use Rattle.partner.specs.declared.Entry.{Entry}
 use Rattle.partner.specs.Record.{entry-bytes, put-entry, entry-size}
@@ -144,10 +144,6 @@ module _ (at : ℕ) (image out : Text) where
 
 -- ---- writers
 
--- the whole of what is left
-pub left-all : (l : Text) (n : ℕ) → take (length l - n) (drop n l) ≡ drop n l
-left-all l n = take-all (length l - n) (drop n l) (omega (arith, length-drop n l))
-
 module _ (e : Entry) (l : Text) where
   pub put-long : entry-size ≤ length l → (put-entry e l .0 ≡ entry-bytes e ++ drop entry-size l) × (put-entry e l .1 ≡ entry-size)
   unfolding put-entry
@@ -163,7 +159,7 @@ pub splice-as : (at k : ℕ) (t image : Text)
 unfolding splice
 splice-as at k t image =
     append-assoc (take at image) t (take (length image - (at + k)) (drop (at + k) image))
-    ∙ ap (λ (r : Text). take at image ++ (t ++ r)) (left-all image (at + k))
+    ∙ ap (λ (r : Text). take at image ++ (t ++ r)) (rest-is (at + k) image)
 
 put-there : (at : ℕ) (e : Entry) (image : Text) (b : Bool) → leb (at + partner-size) (length image) ≡ b
     → take (at + 1) image ++ put-entry e (drop (at + 1) image) .0 ≡ put-back at e image
@@ -190,7 +186,7 @@ put-back-so at e image last h p =
     let n = length image - (at + 1) in
     let l = drop (at + 1) image in
     let m : length l ≤ n = omega (arith, length-drop (at + 1) image) in
-    let q : last ≡ put-entry e l .0 = p ∙ ap (λ (r : Text). put-entry e r .0) (left-all image (at + 1)) in
+    let q : last ≡ put-entry e l .0 = p ∙ ap (λ (r : Text). put-entry e r .0) (rest-is (at + 1) image) in
     let r : last ++ drop n l ≡ put-entry e l .0 =
     ap (λ (x : Text). last ++ x) (drop-of-length-le l m) ∙ append-nil last ∙ q in
     ap (λ (x : Text). take (at + 1) image ++ x) r ∙ put-there at e image (leb (at + partner-size) (length image)) refl

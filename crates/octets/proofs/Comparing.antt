@@ -11,7 +11,7 @@ use lib.ListN.{length, take, drop, getD, drop-of-length-le}
 use lib.Seq.{drop-cons}
 use mir.Syntax.{w8}
 use mir.Val.{Fits}
-use borrow.Author.Tests.{eq-eqb, ne-eqb, eqb-true, lt-ltb, ltb-true}
+use borrow.Author.Tests.{eq-eqb, ne-eqb, eqb-true, lt-ltb}
 use Rattle.octets.specs.Text.{Text, all, same, starts}
 use Rattle.octets.specs.Part.{all-octets}
 
@@ -72,9 +72,6 @@ octets-of s f = all-of (λ b. ltb b 256) s (λ i h. lt-ltb (getD s i 0) 256 (f i
 -- the bytes of a lent slice, as its rule has them (`c .shared-slice-known .given`)
 pub octets-lent : (s : Text) → ((i : ℕ) → Fits w8 (getD s i 0)) → all-octets s ≡ true
 octets-lent s f = octets-of s (λ i. f i .fits)
-
-pub octets-at : (s : Text) (i : ℕ) → all-octets s ≡ true → i < length s → getD s i 0 < 256
-octets-at s i e h = ltb-true (getD s i 0) 256 (all-at (λ b. ltb b 256) s i e h)
 
 pub octets-part : (s : Text) (from many : ℕ) → all-octets s ≡ true → all-octets (take many (drop from s)) ≡ true
 octets-part s from many e = all-take (λ b. ltb b 256) many (drop from s) (all-drop (λ b. ltb b 256) from s e)

@@ -28,11 +28,11 @@ unfoldable pub is-filled : Text → Bool
 is-filled s = is-name (bare s) && same s (filled (bare s))
 
 -- a name or none
-abbrev pub name-or-none : Text → Bool
-name-or-none s = same s blanks || is-filled s
+abbrev pub named-or-none : Text → Bool
+named-or-none s = same s blanks || is-filled s
 
 unfoldable pub is-named : DataKey → Bool
-is-named k = name-or-none (k .name .bytes)
+is-named k = named-or-none (k .name .bytes)
 
 -- the names of a set's keys
 unfoldable pub set-named : KeySet → Bool

@@ -55,7 +55,7 @@ const BLANKS: u64 = 0x2020_2020_2020_2020;
 
 // Whether a key's name is one, or 16 blanks for none.
 pub fn is_named(name: &[u8]) -> bool
-    ensures { λ r. ⌜ r ≡ rule.name-or-none (now (name .entry)) ⌝ }
+    ensures { λ r. ⌜ r ≡ rule.named-or-none (now (name .entry)) ⌝ }
 {
     octets::same_numbers(name, BLANKS, BLANKS) || is_filled(name)
 }

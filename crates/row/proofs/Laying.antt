@@ -14,14 +14,13 @@ use borrow.Author.Tests.{lt-ltb, le-ltb, ltb-true, ltb-false, eqb-true}
 use Rattle.octets.specs.Text.{Text}
 use Rattle.octets.specs.Number.{copies}
 use Rattle.octets.specs.Wrote.{Wrote, over}
-use Rattle.octets.proofs.Writing.{over-whole, wrote-fits}
+use Rattle.octets.proofs.Writing.{over-whole, wrote-fits, rest-is}
 use Rattle.partner.specs.declared.Entry.{Entry}
 use Rattle.partner.specs.Entry.{empty}
 use Rattle.partner.specs.Record.{entry-size, entry-bytes}
 use Rattle.partner.specs.Table.{is-empty}
 use Rattle.partner.proofs.Storing.{names-size}
 use Rattle.image.specs.Image.{front-size, partner-size, slot-bytes, slots-bytes}
-use Rattle.image.proofs.Buffers.{left-all}
 use Rattle.row.specs.Stored.{slots-to-fill, size, put-slot, behind, put-slots, laid}
 use Rattle.row.proofs.Filling.{filled-64, filled-0}
 
@@ -78,11 +77,11 @@ module _ (at : ℕ) (e : Entry) (out : Text) where
       × (at + r ≡ behind at e (length out))
   put-there {x} {r} h w =
       let k : length (drop at out) ≤ length out - at = omega (arith, length-drop at out) in
-      let f = wrote-fits w (omega (arith, ap length (left-all out at), length-drop at out)) in
+      let f = wrote-fits w (omega (arith, ap length (rest-is at out), length-drop at out)) in
       let a : x ++ drop (length out - at) (drop at out) ≡ x =
       ap (λ (t : Text). x ++ t) (drop-of-length-le (drop at out) k) ∙ append-nil x in
       let b : x ≡ slot-bytes e ++ drop (at + length (slot-bytes e)) out =
-      f .0 ∙ ap (λ (t : Text). slot-bytes e ++ drop (length (slot-bytes e)) t) (left-all out at)
+      f .0 ∙ ap (λ (t : Text). slot-bytes e ++ drop (length (slot-bytes e)) t) (rest-is at out)
       ∙ ap (λ (t : Text). slot-bytes e ++ t) (drop-drop (length (slot-bytes e)) at out) in
       (ap (λ (t : Text). take at out ++ t) (a ∙ b) ∙ sym (with-room h .0), ap (λ (m : ℕ). at + m) (f .1) ∙ sym (with-room h .1))
 

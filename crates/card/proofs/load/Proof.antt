@@ -14,7 +14,7 @@ use Rattle.sight.specs.declared.aims.Aim.{Aim}
 use Rattle.sight.specs.declared.aims.Act.the-variants.{Load}
 use Rattle.sight.specs.Aim.{with-room}
 use Rattle.turn.specs.Way.{turn}
-use Rattle.card.specs.declared.Place.{Place}
+use Rattle.card.specs.declared.Lookup.{Lookup}
 use Rattle.card.specs.Ways.{aim, top-of, name-with, seen}
 use Rattle.image.specs.Image.{largest}
 use Rattle.card.proofs.Delivering.{delivered-so}
@@ -62,7 +62,7 @@ returns-2 c =
     ∙ ap (loaded (with-room (aim (Load (top-of key)) im id named) largest .partner) (name-of named)) t
     ∙ sym (ap (λ (u : Turn). u .entry) w) in
     let put = c .before .before .before .load-slot .ensures in
-    let j = ap (λ (x : Place). added-slot (x .slot) (c .before .before .before .before .before .loaded .result) im) k
+    let j = ap (λ (x : Lookup). added-slot (x .slot) (c .before .before .before .before .before .loaded .result) im) k
     ∙ ap (λ (x : Entry). added-slot (seen (with-room (aim (Load (top-of key)) im id named) largest) im .at) x im) e ∙ s .0 in
     delivered-so _ _ out _ _ _ _ (load-all im id (a .name .now) key (length out) .done z) j (s .1) (put .0) (put .1) (c .told-nothing .ensures)
 

@@ -9,7 +9,7 @@ use Rattle.calls.specs.Outcome.{Turn}
 use Rattle.sight.specs.declared.aims.Act.the-variants.{Remove}
 use Rattle.sight.specs.Aim.{with-room}
 use Rattle.turn.specs.Way.{turn}
-use Rattle.card.specs.declared.Place.{Place}
+use Rattle.card.specs.declared.Lookup.{Lookup}
 use Rattle.card.specs.Ways.{aim}
 use Rattle.image.specs.Image.{largest}
 use Rattle.card.proofs.Delivering.{delivered-so}
@@ -41,7 +41,7 @@ returns-2 c =
     let o = octets-lent im (c .before .before .before .before .before .before .before .before .before .before .before .before .before .shared-slice-known .given) in
     let s = remove-so im id (length out) z o in
     let put = c .before .before .before .remove-slot .ensures in
-    let i = ap (λ (x : Place). removed-slot (x .slot) im) k ∙ s .0 in
+    let i = ap (λ (x : Lookup). removed-slot (x .slot) im) k ∙ s .0 in
     delivered-so _ _ out _ _ _ _ (remove-all im id (length out) .done z) i (s .1) (put .0) (put .1) (c .told-nothing .ensures)
 
 pub remove-spec : {M : Type 1} → statement M

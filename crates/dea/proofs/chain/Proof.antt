@@ -5,7 +5,8 @@ use lib.ListN.{length, drop}
 use lib.Bits.{bitXor}
 use Rattle.dea.specs.Dea.{cipher}
 use Rattle.dea.specs.Chain.{first-block, blocks, chain, chained}
-use Rattle.dea.proofs.Blocks.{lent-rest, chain-step, chain-start, chain-end}
+use Rattle.octets.proofs.Writing.{rest-is}
+use Rattle.dea.proofs.Blocks.{chain-step, chain-start, chain-end}
 use borrow.Author.Needs.{needs}
 use native.Mathlib.Omega.{arith}
 use Rattle.dea.proofs.chain.Statement.{statement}
@@ -36,7 +37,7 @@ enciphered c =
     let a = c .before .before .before .before .before .before .before .before .before .before .before .args in
     c .encipher-by .ensures
     ∙ ap (λ (v : ℕ). cipher (a .ks .now) (bitXor (l .output) v))
-    (c .before .block .ensures ∙ ap first-block (lent-rest (a .text .now) (length (a .text .now) - l .left)))
+    (c .before .block .ensures ∙ ap first-block (rest-is (length (a .text .now) - l .left) (a .text .now)))
 
 loop-holds : tie.Need-loop-holds Inv-loop μ-loop
 loop-holds c =

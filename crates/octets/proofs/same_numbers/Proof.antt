@@ -1,16 +1,16 @@
 -- `octets::same_numbers` meets its contract: number by number. Assumes nothing.
 use mathlib.Core.Path.{_≡_, sym, ap, _∙_}
 use mathlib.Core.Bool.{Bool, false, _&&_}
-use Prim.Native.Nat.{ℕ, _-_}
+use Prim.Native.Nat.{ℕ}
 use native.Mathlib.Omega.{arith}
 use borrow.Author.Tests.{eq-eqb, ne-eqb}
 use borrow.Author.Needs.{needs}
 use lib.Dec.{eqb}
-use lib.ListN.{length, take, drop, length-take, length-drop}
-use lib.Seq.{take-all}
+use lib.ListN.{take, drop, length-take, length-drop}
 use Rattle.octets.specs.Text.{Text}
 use Rattle.octets.specs.Number.{number}
 use Rattle.octets.proofs.Comparing.{octets-lent}
+use Rattle.octets.proofs.Writing.{rest-is}
 use Rattle.octets.proofs.Words.{same-by-numbers, other-length}
 use Rattle.octets.proofs.same_numbers.Statement.{statement}
 use Rattle.octets.proofs.same_numbers.Tie as tie
@@ -37,8 +37,7 @@ returns-2 c =
     let s : Text = a .s .now in
     let o = octets-lent s (first .before .before .before .shared-slice-known .given) in
     let t = eq-eqb (number (take 8 s)) (a .first) (sym (first .eight .ensures) ∙ c .before .before .if2 .taken) in
-    let back : take (length s - 8) (drop 8 s) ≡ drop 8 s = take-all (length s - 8) (drop 8 s) (omega (arith, length-drop 8 s)) in
-    ap (λ (n : ℕ). eqb n (a .second)) (c .eight2 .ensures ∙ ap number back)
+    ap (λ (n : ℕ). eqb n (a .second)) (c .eight2 .ensures ∙ ap number (rest-is 8 s))
     ∙ sym (same-by-numbers s (first .before .before .if1 .left) o (a .first) (a .second) (start .fits .first .fits) (start .fits .second .fits)
     ∙ ap (λ (b : Bool). b && eqb (number (drop 8 s)) (a .second)) t)
 

@@ -4,12 +4,12 @@ use mathlib.Core.Bool.{true}
 use Prim.Native.Nat.{ℕ, _-_, _^_, _%_}
 use native.Mathlib.Omega.{arith}
 use borrow.Author.Needs.{needs}
-use lib.ListN.{length, take, drop, length-take, length-drop}
-use lib.Seq.{take-all}
+use lib.ListN.{length, take, drop, length-take}
 use Rattle.octets.specs.Text.{Text}
 use Rattle.octets.specs.Part.{all-octets}
 use Rattle.octets.specs.Number.{number}
 use Rattle.octets.proofs.Comparing.{octets-lent, octets-part}
+use Rattle.octets.proofs.Writing.{rest-is}
 use Rattle.octets.proofs.Numbers.{number-fits}
 use Rattle.octets.proofs.Words.{numbers-are}
 use Rattle.image.specs.Places.{seek-slot}
@@ -30,9 +30,8 @@ returns c =
     let s : Text = a .identity .now in
     let o = octets-lent s (c .before .before .before .before .before .shared-slice-known2 .given) in
     let l : length s ≡ 16 = omega arith in
-    let back : take (length s - 8) (drop 8 s) ≡ drop 8 s = take-all (length s - 8) (drop 8 s) (omega (arith, length-drop 8 s)) in
     let first = c .before .before .before .number .ensures ∙ eight s 0 8 o l refl in
-    let second = c .before .number2 .ensures ∙ eight s 8 (length s - 8) o l (omega arith) ∙ ap number back in
+    let second = c .before .number2 .ensures ∙ eight s 8 (length s - 8) o l (omega arith) ∙ ap number (rest-is 8 s) in
     c .seek .ensures ∙ ap (λ (t : Text). seek-slot (a .count) 0 (a .from) t (a .image .now)) (numbers-are s l o _ _ first second)
 
 pub seek-named-spec : {M : Type 1} → statement M

@@ -4,7 +4,7 @@ use Prim.Native.Nat.{_+_}
 use native.Mathlib.Omega.{arith}
 use borrow.Author.Needs.{needs}
 use Rattle.octets.proofs.Parts.{part-cut}
-use Rattle.partner.specs.Legal.{is-named, is-unused, name-or-none, zero-place}
+use Rattle.partner.specs.Legal.{is-named, is-unused, named-or-none, zero-place}
 use Rattle.partner.specs.Units.{place-formed}
 use Rattle.record.proofs.legal.place_formed.Statement.{statement}
 use Rattle.record.proofs.legal.place_formed.Tie as tie
@@ -14,7 +14,7 @@ unfolding place-formed is-named
 returns c =
     let a = c .before .before .before .before .args in
     let name = part-cut 16 (a .at + 8) (a .at + 8 + 16) (a .s .now) refl (omega arith) in
-    rw (c .before .before .if1 .taken) (c .is-named .ensures ∙ ap name-or-none name)
+    rw (c .before .before .if1 .taken) (c .is-named .ensures ∙ ap named-or-none name)
 
 returns-2 : tie.Need-returns-2
 unfolding place-formed is-unused
