@@ -1,5 +1,5 @@
-/* MACs over a long text and over the longest KSM, and one block with its key schedule, beside nettle's and OpenSSL's
- * DES on the same bytes. */
+/* MACs over a long text and over as much as the longest KSM without NOS has, and one block with its key schedule,
+ * beside nettle's and OpenSSL's DES on the same bytes. */
 #define OPENSSL_SUPPRESS_DEPRECATED
 #include <nettle/cbc.h>
 #include <nettle/des.h>
@@ -11,11 +11,11 @@
 #include "../host/khlongsit.h"
 #include "clock.h"
 
-enum { MOST = 4096, LENGTHS = 3, PEERS = 3 };
+enum { MOST = 4096, KSM = 232, LENGTHS = 3, PEERS = 3 };
 
 static const uint8_t key_bytes[KHL_KEY] = {0x01, 0x23, 0x45, 0x67, 0x89, 0xAB, 0xCD, 0xEF};
 static const uint64_t key_number = 0x0123456789ABCDEF;
-static size_t lengths[LENGTHS] = {MOST, KHL_KSM_MOST, KHL_KEY};
+static size_t lengths[LENGTHS] = {MOST, KSM, KHL_KEY};
 static const char *const peers[PEERS] = {"ours", "nettle", "OpenSSL"};
 static uint8_t text[MOST], output[MOST];
 static uint32_t mac;

@@ -1,5 +1,5 @@
-/* A good KSM received: of 232 bytes on tables of 1 to 64 partners, and of every length on the smallest and on the full
- * table. The originator has a pair and stands in the last slot in use. */
+/* A good KSM received: of 232 bytes on tables of 1 to 64 partners, of every length on the smallest and on the full
+ * table, and the longest with NOS on the full one. The originator has a pair and stands in the last slot in use. */
 #include <stdint.h>
 #include <stdio.h>
 #include <stdlib.h>
@@ -13,16 +13,16 @@
 
 enum { SIZES = 7, SHAPES = 6 };
 
-/* what a KSM has: how long its names are, its keys and their flags, and whether it has IV and date */
+/* what a KSM has: how long its names are, its keys and their flags, and whether it has IV and date, and NOS */
 static const struct shape {
     int long_names, keys;
     uint8_t flags;
     int iv_and_date;
     uint32_t count;
-} shapes[SHAPES] = {
-    {0, 1, 0, 0, 1},        {1, 1, 0, 0, 1},        {1, 1, 7, 0, 99999998},
-    {1, 2, 0, 1, 99999998}, {1, 2, 2, 1, 99999998}, {1, 2, 7, 1, 99999998},
-};
+    int notarized;
+} shapes[SHAPES] = {{0, 1, 0, 0, 1, 0},        {1, 1, 0, 0, 1, 0},        {1, 1, 7, 0, 99999998, 0},
+                    {1, 2, 0, 1, 99999998, 0}, {1, 2, 2, 1, 99999998, 0}, {1, 2, 7, 1, 99999998, 0}},
+  with_nos = {1, 2, 7, 1, 99999998, 1};
 
 static struct test {
     struct image image;
@@ -30,7 +30,7 @@ static struct test {
     struct text text;
     int needed; /* cipher blocks that document 01 asks for */
     size_t place;
-} by_partners[SIZES], by_length[2][SHAPES];
+} by_partners[SIZES], by_length[2][SHAPES], notarized;
 
 static uint8_t reply[KHL_ROOM], report[KHL_REPORT];
 
@@ -60,6 +60,7 @@ static void write_ksm(struct text *text, const struct shape *shape) {
         put_iv(request, KHL_IV_ENCIPHERED, 0);
         put_date(request, "840229235959");
     }
+    khl_request_put_notarized(request, shape->notarized);
     const char *us = own(shape);
     if (khl_build_ksm(theirs.bytes, theirs.length, (const uint8_t *)us, strlen(us), request, sizeof request, reply,
                       sizeof reply, report) != KHL_DONE) {
@@ -89,8 +90,8 @@ static void make_test(struct test *test, int partners, const struct shape *shape
         fprintf(stderr, "a good KSM of %zu bytes is not taken\n", test->text.length);
         exit(1);
     }
-    test->needed =
-        3 * shape->keys + shape->iv_and_date + mac_blocks(test->text.length) + mac_blocks(khl_report_length(report));
+    test->needed = 3 * shape->keys + shape->iv_and_date + 2 * shape->notarized + mac_blocks(test->text.length) +
+                   mac_blocks(khl_report_length(report));
     test->place = add_work(receive_work, test);
 }
 
@@ -101,6 +102,7 @@ void add_receive_works(void) {
         make_test(&by_length[0][i], 1, &shapes[i]);
         make_test(&by_length[1][i], KHL_PARTNERS, &shapes[i]);
     }
+    make_test(&notarized, KHL_PARTNERS, &with_nos);
 }
 
 /* a point of a curve: where it stands, and its height in blocks */
@@ -118,6 +120,8 @@ void print_receive(void) {
     print_row("receive", "KSM of 232 bytes, 64 partners", time_of(full->place) / scheduled_time(),
               "blocks with schedule");
     print_row("receive", "KSM of 232 bytes, by document 01", full->needed, "blocks");
+    print_row("receive", "KSM of 237 bytes with NOS, 64 partners", blocks(&notarized), "blocks");
+    print_row("receive", "KSM of 237 bytes with NOS, by the papers", notarized.needed, "blocks");
     for (int i = 0; i < SIZES; i++)
         print_point("partners", (size_t)1 << i, blocks(&by_partners[i]));
     for (int i = 0; i < SHAPES; i++) {

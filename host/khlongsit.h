@@ -20,6 +20,10 @@
  * What the host has to know besides:
  * - Store the image before the reply leaves: an image older than what was sent brings counts and keys back.
  * - A resend is the host sending the bytes of the key message again; the card does not keep them.
+ * - NOS in a KSM says that its data keys are notarized: sealed not under the top key offset by CTP but under the
+ *   notarizing key of X9.17's section 7.5, made of the top key, ORG, RCV and CTP, so that they open only as keys from
+ *   that originator to that receiver. A request asks for it; a KSM received says so itself, and the report does not.
+ *   Identities that are alike once they are repeated to 16 characters (A and AA) give one notarizing key.
  * - An ESM carries no MAC. Whoever can write to the line can break a waiting exchange with one, and an ESM whose CTP is
  *   99,999,999 spends the send count: no key message can be built for that partner until both ends load each other
  *   anew.
@@ -32,7 +36,7 @@
  * - Keys and key schedules are left on the stack by a call, and keys may be left in registers. A host that wants them
  *   gone overwrites KHL_STACK bytes of stack after the call, from where it was called; host/bytes.c does so.
  * - A call needs at most KHL_STACK bytes of stack: a test paints the stack and holds every call to that, with 64
- *   partners. Today build a KSM uses 3,712 bytes, receive 3,696, build an RSI 2,984, give up 2,712, the others at most
+ *   partners. Today build a KSM uses 3,744 bytes, receive 3,728, build an RSI 3,016, give up 2,744, the others at most
  *   1,000.
  */
 #ifndef KHLONGSIT_H
@@ -67,10 +71,10 @@ enum khl_answer {
 /* Sizes in bytes. */
 enum {
     KHL_REPORT = 32,        /* a report, exactly */
-    KHL_REQUEST = 73,       /* a request for a KSM, exactly */
+    KHL_REQUEST = 74,       /* a request for a KSM, exactly */
     KHL_ROOM = 256,         /* a reply buffer, at least */
     KHL_TEXT_MOST = 512,    /* the text of a message, at most */
-    KHL_KSM_MOST = 232,     /* the longest KSM that the card writes */
+    KHL_KSM_MOST = 237,     /* the longest KSM that the card writes; 232 without NOS */
     KHL_IMAGE_LEAST = 81,   /* an image without partners */
     KHL_IMAGE_MOST = 10065, /* an image with 64 partners, and the least room for a new image */
     KHL_RECORD = 156,       /* the body of a partner's record */
@@ -135,7 +139,7 @@ enum khl_letter {
     KHL_LETTER_I = 1 << 3, /* an IDK2 that is not the entry's key name; alone */
     KHL_LETTER_K = 1 << 4, /* a KD marked P and not of odd parity once deciphered; alone */
     KHL_LETTER_M = 1 << 5, /* MAC differs */
-    KHL_LETTER_O = 1 << 6, /* option not implemented; alone */
+    KHL_LETTER_O = 1 << 6, /* option not implemented; alone. NOS is no option */
     KHL_LETTER_P = 1 << 7, /* count below the expected one, or 99,999,999 */
     KHL_LETTER_U = 1 << 8
 };
@@ -178,13 +182,14 @@ static inline const uint8_t *khl_report_date(const uint8_t *report) { return rep
 
 /* ---- the request for a KSM: where each part stands */
 enum {
-    KHL_REQUEST_COUNT = 0,    /* 1 byte: number of keys, 1 or 2 */
-    KHL_REQUEST_FIRST = 1,    /* 25 bytes: the first key */
-    KHL_REQUEST_SECOND = 26,  /* 25 bytes: the second key; not judged where there is one key */
-    KHL_REQUEST_IV_KIND = 51, /* 1 byte: enum khl_iv_kind; above 2 is 12 */
-    KHL_REQUEST_IV = 52,      /* 8 bytes: the IV in the clear; not judged where there is none */
-    KHL_REQUEST_DATED = 60,   /* 1 byte: 1 to write EDK, else 0 */
-    KHL_REQUEST_DATE = 61,    /* 12 bytes: the date, digits; not judged where EDK is not written */
+    KHL_REQUEST_COUNT = 0,      /* 1 byte: number of keys, 1 or 2 */
+    KHL_REQUEST_FIRST = 1,      /* 25 bytes: the first key */
+    KHL_REQUEST_SECOND = 26,    /* 25 bytes: the second key; not judged where there is one key */
+    KHL_REQUEST_IV_KIND = 51,   /* 1 byte: enum khl_iv_kind; above 2 is 12 */
+    KHL_REQUEST_IV = 52,        /* 8 bytes: the IV in the clear; not judged where there is none */
+    KHL_REQUEST_DATED = 60,     /* 1 byte: 1 to write EDK, else 0 */
+    KHL_REQUEST_DATE = 61,      /* 12 bytes: the date, digits; not judged where EDK is not written */
+    KHL_REQUEST_NOTARIZED = 73, /* 1 byte: 1 to write NOS and notarize the keys, else 0 */
 
     /* and within each key's 25 bytes */
     KHL_ASKED_KEY = 0,   /* 8 bytes: the key in the clear */
@@ -200,7 +205,7 @@ enum khl_flag {
 
 enum khl_iv_kind { KHL_IV_NONE, KHL_IV_PLAIN, KHL_IV_ENCIPHERED };
 
-/* A request begins as 73 zero bytes. The first key has place 0, the second 1; this is where its 25 bytes stand. */
+/* A request begins as 74 zero bytes. The first key has place 0, the second 1; this is where its 25 bytes stand. */
 static inline size_t khl_request_asked(int place) { return place == 0 ? KHL_REQUEST_FIRST : KHL_REQUEST_SECOND; }
 
 static inline int khl_request_count(const uint8_t *request) { return request[KHL_REQUEST_COUNT]; }
@@ -211,6 +216,7 @@ static inline enum khl_iv_kind khl_request_iv_kind(const uint8_t *request) {
     return (enum khl_iv_kind)request[KHL_REQUEST_IV_KIND];
 }
 static inline int khl_request_dated(const uint8_t *request) { return request[KHL_REQUEST_DATED]; }
+static inline int khl_request_notarized(const uint8_t *request) { return request[KHL_REQUEST_NOTARIZED]; }
 
 static inline void khl_request_put_count(uint8_t *request, int keys) { request[KHL_REQUEST_COUNT] = (uint8_t)keys; }
 static inline void khl_request_put_flags(uint8_t *request, int place, unsigned flags) {
@@ -220,6 +226,9 @@ static inline void khl_request_put_iv_kind(uint8_t *request, enum khl_iv_kind ki
     request[KHL_REQUEST_IV_KIND] = (uint8_t)kind;
 }
 static inline void khl_request_put_dated(uint8_t *request, int dated) { request[KHL_REQUEST_DATED] = (uint8_t)dated; }
+static inline void khl_request_put_notarized(uint8_t *request, int notarized) {
+    request[KHL_REQUEST_NOTARIZED] = (uint8_t)notarized;
+}
 
 /* where the bytes of a key, its name, the IV and the date are put */
 static inline uint8_t *khl_request_key(uint8_t *request, int place) {
@@ -300,7 +309,8 @@ static inline const uint8_t *khl_set_name(const uint8_t *set, int place) {
  * - RSI: 0; class and service are reported. No reply.
  * - KSM: 4 with I, 4 with K, or 4 with all that hold of F, M and P; otherwise 0: the keys and names replace the
  *   incoming ones, expected becomes count + 1, the reply is an RSM; class, reply length, and the IV and date that it
- *   has are reported.
+ *   has are reported. NOS between ORG and the first KD says how the keys are sealed and changes nothing else; a KSM
+ *   whose NOS has contents, or has anything but a KD behind it, is 1.
  * - RSM: 5; 4 with M, still waiting; otherwise 0: phase 2. Class is reported. No reply.
  * - ESM: 5; otherwise 0: phase 3, outgoing keys wiped, next send the larger of itself and CTP, if there is one. Class
  *   and the ESM's letters are reported. No reply: no ESM is ever answered.
@@ -310,11 +320,11 @@ uint32_t khl_receive(uint8_t *image, size_t image_len, const uint8_t *text, size
                      size_t reply_len, uint8_t *report);
 
 /* Builds a KSM for a partner. Answers 13, 6, 3, 7, 8, 11 (a key to be marked P is not of odd parity), 12 (a request not
- * of 73 bytes, no key, more than two, two equal keys, or a bad name, date or flag, an IV kind above 2 among them; in a
- * request of 73 bytes with one or two keys 11 comes before every fault of 12, otherwise no key is used and there is no
- * 11); otherwise 0: the reply is the message with the next send count, which rises by one; the outgoing keys are set,
- * named by the IDK1 written; phase 1. The reply's length is reported. In phase 2 the keys confirmed before are dropped
- * at once. */
+ * of 74 bytes, no key, more than two, two equal keys, or a bad name, date or flag, an IV kind above 2 and a notarized
+ * above 1 among them; in a request of 74 bytes with one or two keys 11 comes before every fault of 12, otherwise no key
+ * is used and there is no 11); otherwise 0: the reply is the message with the next send count, which rises by one; the
+ * outgoing keys are set, named by the IDK1 written; phase 1. The reply's length is reported. In phase 2 the keys
+ * confirmed before are dropped at once. */
 uint32_t khl_build_ksm(uint8_t *image, size_t image_len, const uint8_t *partner, size_t partner_len,
                        const uint8_t *request, size_t request_len, uint8_t *reply, size_t reply_len, uint8_t *report);
 

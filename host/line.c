@@ -11,6 +11,7 @@
 #include "say.h"
 #include "store.h"
 
+/* in two parts: C promises no longer strings */
 static const char help[] =
     "usage: line COMMAND IMAGE [WORD..]\n"
     "\n"
@@ -34,12 +35,15 @@ static const char help[] =
     "\n"
     "The desk\n"
     "  ksm IMAGE PARTNER --key HEX [OF THE KEY] [--key HEX [OF THE KEY]] [--iv HEX | --iv-enciphered HEX] [--date D]\n"
+    "      [--notarized]\n"
     "                             builds a key message and prints it. Keep it: a resend is the same bytes again.\n"
     "                             HEX is 16 hex digits, or - for the next line of standard input. Of the key before:\n"
     "                               --p          marked P: it has to be of odd parity\n"
     "                               --idk1 NAME  its name is written\n"
     "                               --idk2       the name of the top key is written\n"
-    "                             The IV is given in the clear and goes plain or enciphered; D is YYMMDDHHMMSS\n"
+    "                             The IV is given in the clear and goes plain or enciphered; D is YYMMDDHHMMSS.\n"
+    "                             --notarized writes NOS and seals the keys for this card and this partner alone, as\n"
+    "                             X9.17 has it in section 7.5; `run` takes messages with NOS and without it\n"
     "  rsi IMAGE PARTNER [SVR]    builds a request for service and prints it. SVR is KK or *KK, KD, IV, in this\n"
     "                             order and joined by dots, or left out: one data key is always meant\n"
     "  give-up IMAGE PARTNER      gives up on the key message that waits for its answer\n"
@@ -50,7 +54,9 @@ static const char help[] =
     "                             standard output, each once the image is kept. Standard error has for each line\n"
     "                             its number, the card's answer, and what the message told: the service wanted,\n"
     "                             the IV in the clear and the date, or the letters of an error. It stops at a line\n"
-    "                             whose reply or account could not be written, and names it\n"
+    "                             whose reply or account could not be written, and names it\n";
+
+static const char help_behind[] =
     "\n"
     "Keys. No command prints a key; a check value is the first three bytes of the zero block enciphered under it.\n"
     "A key on the command line is seen by every user of the machine and stays in the shell's history: use - and\n"
@@ -116,6 +122,7 @@ static int act(int argc, char **argv) {
         return complain(MISUSED, "no command; line --help tells all");
     if (strcmp(argv[1], "--help") == 0) {
         fputs(help, stdout);
+        fputs(help_behind, stdout);
         return DONE;
     }
     const struct command *command = find_command(argv[1]);

@@ -70,15 +70,21 @@ static int set_date(uint8_t *request, const char *word) {
     return DONE;
 }
 
+static int notarize(uint8_t *request, const char *word) {
+    (void)word;
+    khl_request_put_notarized(request, 1);
+    return DONE;
+}
+
 static const struct option {
     const char *name;
     int (*act)(uint8_t *request, const char *word);
     int words;  /* behind it */
     int of_key; /* it is about the key before it */
 } options[] = {
-    {"--key", begin_key, 1, 0},   {"--p", mark_p, 0, 1},    {"--idk1", write_idk1, 1, 1},
-    {"--idk2", write_idk2, 0, 1}, {"--iv", plain_iv, 1, 0}, {"--iv-enciphered", enciphered_iv, 1, 0},
-    {"--date", set_date, 1, 0},
+    {"--key", begin_key, 1, 0},   {"--p", mark_p, 0, 1},           {"--idk1", write_idk1, 1, 1},
+    {"--idk2", write_idk2, 0, 1}, {"--iv", plain_iv, 1, 0},        {"--iv-enciphered", enciphered_iv, 1, 0},
+    {"--date", set_date, 1, 0},   {"--notarized", notarize, 0, 0},
 };
 
 static const struct option *find_option(const char *name) {

@@ -4,7 +4,7 @@
 
 #include <stdint.h>
 
-/* Makes the 73 bytes of a request; gives DONE, or complains and gives MISUSED, or FAILED where a key could not be read.
+/* Makes the 74 bytes of a request; gives DONE, or complains and gives MISUSED, or FAILED where a key could not be read.
  */
 int read_request(uint8_t *request, int count, char **words);
 

@@ -37,8 +37,9 @@ static const char *subfields(unsigned flags) {
     return all[flags];
 }
 
-/* one form of a key message: the flags of its keys, the kind of its IV, dated or not */
-static void key_message(enum form form, int keys, unsigned flags, int iv_kind, int dated, enum khl_phase phase) {
+/* one form of a key message: the flags of its keys, the kind of its IV, dated or not, notarized or not */
+static void key_message(enum form form, int keys, unsigned flags, int iv_kind, int dated, int notarized,
+                        enum khl_phase phase) {
     struct image image, wanted;
     struct text text;
     uint8_t request[KHL_REQUEST];
@@ -54,8 +55,9 @@ static void key_message(enum form form, int keys, unsigned flags, int iv_kind, i
     put_asked(request, 1, TWO, second, "NAME1");
     khl_request_put_iv_kind(request, (enum khl_iv_kind)iv_kind);
     khl_request_put_dated(request, dated);
+    khl_request_put_notarized(request, notarized);
 
-    begin(&text, "KSM", "HARBOR", "MILL");
+    begin_ksm(&text, "HARBOR", "MILL", notarized);
     add_kd(&text, harbor, next, ONE, subfields(flags));
     if (keys == 2)
         add_kd(&text, harbor, next, TWO, subfields(second));
@@ -69,8 +71,8 @@ static void key_message(enum form form, int keys, unsigned flags, int iv_kind, i
     put_outgoing(harbor, keys, ONE, flags & KHL_FLAG_IDK1 ? "NAME1" : NULL, TWO,
                  second & KHL_FLAG_IDK1 ? "NAME1" : NULL);
 
-    trying("build a KSM, form %d, %d keys, flags %u, IV kind %d, dated %d, phase %d", form, keys, flags, iv_kind, dated,
-           phase);
+    trying("build a KSM, form %d, %d keys, flags %u, IV kind %d, dated %d, notarized %d, phase %d", form, keys, flags,
+           iv_kind, dated, notarized, phase);
     answers(build_ksm(&image, "HARBOR", request, KHL_REQUEST, KHL_ROOM), KHL_DONE);
     reports(0, text.length, KHL_CLASS_NONE, KHL_SERVICE_NONE, NULL, NULL);
     replies(text.bytes, text.length);
@@ -82,9 +84,10 @@ static void key_message(enum form form, int keys, unsigned flags, int iv_kind, i
 static void key_messages(void) {
     static const enum khl_phase phases[] = {KHL_PHASE_IDLE, KHL_PHASE_CONFIRMED, KHL_PHASE_BROKEN};
     for (unsigned flags = 0; flags < 8; flags++)
-        for (int iv_kind = KHL_IV_NONE; iv_kind <= KHL_IV_ENCIPHERED; iv_kind++) {
-            key_message(SINGLE, 1, flags, iv_kind, iv_kind == KHL_IV_PLAIN, phases[flags % 3]);
-            key_message(PAIR, 2, flags, iv_kind, iv_kind != KHL_IV_PLAIN, phases[iv_kind]);
+        for (int kinds = 0; kinds < 6; kinds++) {
+            int iv_kind = kinds % 3, notarized = kinds / 3;
+            key_message(SINGLE, 1, flags, iv_kind, iv_kind == KHL_IV_PLAIN, notarized, phases[flags % 3]);
+            key_message(PAIR, 2, flags, iv_kind, iv_kind != KHL_IV_PLAIN, notarized, phases[iv_kind]);
         }
 }
 
@@ -97,6 +100,7 @@ static void not_judged(void) {
     khl_request_put_flags(request, 0, 0);
     khl_request_put_iv_kind(request, KHL_IV_NONE);
     khl_request_put_dated(request, 0);
+    khl_request_put_notarized(request, 0);
     make_mill(&image, SINGLE, KHL_PHASE_IDLE);
     trying("a request whose unused parts are nonsense");
     answers(build_ksm(&image, "HARBOR", request, sizeof request, KHL_ROOM), KHL_DONE);
@@ -125,6 +129,8 @@ static void malformed(void) {
         {KHL_REQUEST_DATE, 'A', "a date with a letter"},
         {KHL_REQUEST_DATE + 1, '5', "29 February 1985"},
         {KHL_REQUEST_DATE + 6, '3', "hour 33"},
+        {KHL_REQUEST_NOTARIZED, 2, "a notarized of 2"},
+        {KHL_REQUEST_NOTARIZED, 255, "a notarized of 255"},
     };
     struct image image;
     uint8_t request[KHL_REQUEST + 1];
@@ -139,7 +145,7 @@ static void malformed(void) {
     khl_put_number(khl_request_key(request, 1), KHL_KEY, ONE);
     trying("two equal keys");
     answers(build_ksm(&image, "HARBOR", request, KHL_REQUEST, KHL_ROOM), KHL_BAD_REQUEST);
-    for (size_t length = 0; length <= KHL_REQUEST + 1; length += length < 2 || length >= 72 ? 1 : 70) {
+    for (size_t length = 0; length <= KHL_REQUEST + 1; length += length < 2 || length >= 73 ? 1 : 71) {
         if (length == KHL_REQUEST)
             continue;
         make_request(request);
@@ -162,6 +168,7 @@ static void parity(void) {
             khl_request_put_count(request, keys);
             khl_request_put_iv_kind(request, (enum khl_iv_kind)9);
             khl_request_put_dated(request, 9);
+            khl_request_put_notarized(request, 9);
             trying("%d keys, the %s one marked P, even, and all else bad", keys, which == 0 ? "first" : "second");
             answers(build_ksm(&image, "HARBOR", request, KHL_REQUEST, KHL_ROOM),
                     keys == 0 || keys == 3 || which >= keys ? KHL_BAD_REQUEST : KHL_BAD_PARITY);
@@ -177,13 +184,16 @@ static void longest(void) {
     make_card(&image, "PONMLKJIHGFEDCBA");
     uint8_t *record = add_partner(&image, name, PAIR);
     khl_put_name(record + KHL_RECORD_NAME, name);
-    put_sending(record, 99999998, KHL_PHASE_BROKEN, 0);
     make_request(request);
     put_asked(request, 0, ONE, 7, name);
     put_asked(request, 1, 0xFEDCBA9876543210, 7, name);
-    trying("the longest KSM");
-    answers(build_ksm(&image, name, request, KHL_REQUEST, KHL_ROOM), KHL_DONE);
-    holds(reply_length == KHL_KSM_MOST, "it has %zu bytes", reply_length);
+    for (int notarized = 0; notarized <= 1; notarized++) {
+        put_sending(record, 99999998, KHL_PHASE_BROKEN, 0);
+        khl_request_put_notarized(request, notarized);
+        trying("the longest KSM %s NOS", notarized ? "with" : "without");
+        answers(build_ksm(&image, name, request, KHL_REQUEST, KHL_ROOM), KHL_DONE);
+        holds(reply_length == (notarized ? KHL_KSM_MOST : 232), "it has %zu bytes", reply_length);
+    }
     put_sending(record, KHL_COUNT_LAST, KHL_PHASE_BROKEN, 0);
     trying("the count behind it");
     answers(build_ksm(&image, name, request, KHL_REQUEST, KHL_ROOM), KHL_COUNT_SPENT);

@@ -5,6 +5,8 @@
 #include <stdio.h>
 #include <string.h>
 
+#include "../seal.h"
+
 void make_card(struct image *image, const char *own) {
     memset(image, 0, sizeof *image);
     image->length = KHL_IMAGE_LEAST;
@@ -110,7 +112,17 @@ void put_date(uint8_t *request, const char *date) {
 
 void begin(struct text *text, const char *class_word, const char *rcv, const char *org) {
     text->length = 0;
+    text->rcv = text->org = NULL;
     add(text, "CSM(MCL/%s RCV/%s ORG/%s ", class_word, rcv, org);
+}
+
+void begin_ksm(struct text *text, const char *rcv, const char *org, int notarized) {
+    begin(text, "KSM", rcv, org);
+    if (!notarized)
+        return;
+    add(text, "NOS/ ");
+    text->rcv = rcv;
+    text->org = org;
 }
 
 void add(struct text *text, const char *format, ...) {
@@ -121,12 +133,10 @@ void add(struct text *text, const char *format, ...) {
 }
 
 void add_kd(struct text *text, const uint8_t *record, uint32_t count, uint64_t key, const char *subfields) {
-    const uint8_t *top = khl_record_top(record);
-    uint64_t left = khl_number(top, KHL_KEY) ^ count, right = khl_number(top + KHL_KEY, KHL_KEY) ^ count;
-    uint64_t sealed = khl_test_encipher(left, key);
-    if (khl_record_form(record) == KHL_FORM_PAIR)
-        sealed = khl_test_encipher(left, khl_test_decipher(right, sealed));
-    add(text, "KD/%016" PRIX64 "%s ", sealed, subfields);
+    struct ends ends;
+    if (text->org != NULL)
+        ends = (struct ends){{text->org, strlen(text->org)}, {text->rcv, strlen(text->rcv)}};
+    add(text, "KD/%016" PRIX64 "%s ", seal(record, text->org != NULL ? &ends : NULL, count, key), subfields);
 }
 
 void end_with_mac(struct text *text, uint64_t key, uint32_t turned) {

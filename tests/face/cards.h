@@ -53,16 +53,20 @@ void put_asked(uint8_t *request, int place, uint64_t key, unsigned flags, const 
 void put_iv(uint8_t *request, enum khl_iv_kind kind, uint64_t iv);
 void put_date(uint8_t *request, const char *date);
 
-/* A message that is being written. */
+/* A message that is being written; its ends where it has NOS, else null pointers. */
 struct text {
     size_t length;
     char bytes[600];
+    const char *rcv, *org;
 };
 
 void begin(struct text *text, const char *class_word, const char *rcv, const char *org);
 void add(struct text *text, const char *format, ...);
 
-/* Adds a key sealed under a record's top key offset by a count, and the subfields behind it. */
+/* Begins a KSM, with NOS where its keys are notarized. */
+void begin_ksm(struct text *text, const char *rcv, const char *org, int notarized);
+
+/* Adds a key sealed under a record's top key for a count, notarized where the text has NOS, and its subfields. */
 void add_kd(struct text *text, const uint8_t *record, uint32_t count, uint64_t key, const char *subfields);
 
 /* Adds the MAC under a key, with some of its bits turned, and the end. */

@@ -19,6 +19,10 @@ static const char second_ksm[] =
 static const char rsm[] = "CSM(MCL/RSM RCV/MILL ORG/HARBOR MAC/BDEC 38D4 )";
 static const char ksm_back[] = "CSM(MCL/KSM RCV/MILL ORG/HARBOR KD/DF41056E88140B8D CTP/1 MAC/C62B 3E19 )";
 static const char rsm_back[] = "CSM(MCL/RSM RCV/HARBOR ORG/MILL MAC/ED0B 7467 )";
+static const char notarized_ksm[] =
+    "CSM(MCL/KSM RCV/HARBOR ORG/MILL NOS/ KD/D12DF862D26D9BF5.P.AUTH1.TOP KD/8EE412ACE01FB638..DATA1 "
+    "IV/ECF1976AD72CAEDF7 EDK/840229235959 CTP/3 MAC/7C25 AD29 )";
+static const char notarized_back[] = "CSM(MCL/KSM RCV/MILL ORG/HARBOR NOS/ KD/36AE12B9B1E47C56 CTP/2 MAC/3AC2 DB80 )";
 static const char late_esm[] = "CSM(MCL/ESM RCV/MILL ORG/HARBOR CTP/2 CTR/1 ERF/P )";
 
 static struct image mill, harbor;
@@ -44,9 +48,10 @@ static void make_request(uint8_t *request) {
     put_date(request, DATE);
 }
 
-static void build(const char *wanted) {
+static void build(const char *wanted, int notarized) {
     uint8_t request[KHL_REQUEST];
     make_request(request);
+    khl_request_put_notarized(request, notarized);
     trying("MILL builds %s", wanted);
     answers(build_ksm(&mill, "HARBOR", request, sizeof request, KHL_ROOM), KHL_DONE);
     replies(wanted, strlen(wanted));
@@ -82,11 +87,36 @@ static void keys_agree(const struct image *from, const char *to, const struct im
     same("the keys", khl_record_outgoing(sent), khl_record_incoming(reply), KHL_SET);
 }
 
+/* HARBOR builds one key without ornament, and the exchange is confirmed */
+static void back(const char *ksm, int notarized) {
+    uint8_t request[KHL_REQUEST] = {1};
+    put_asked(request, 0, TWO, 0, "");
+    khl_request_put_notarized(request, notarized);
+    trying("HARBOR builds %s", ksm);
+    answers(build_ksm(&harbor, "MILL", request, sizeof request, KHL_ROOM), KHL_DONE);
+    replies(ksm, strlen(ksm));
+    arrives(&mill, ksm, KHL_DONE, rsm_back);
+    arrives(&harbor, rsm_back, KHL_DONE, NULL);
+    keys_agree(&harbor, "MILL", &mill, "HARBOR");
+}
+
+/* the same keys notarized, both ways; whoever opens them must be the one that they are for */
+static void notarized(void) {
+    uint64_t iv = IV_VALUE;
+    build(notarized_ksm, 1);
+    arrives(&mill, notarized_ksm, KHL_NOT_FOR_US, NULL);
+    arrives(&harbor, notarized_ksm, KHL_DONE, rsm);
+    reports(0, 47, KHL_CLASS_KSM, KHL_SERVICE_NONE, &iv, DATE);
+    arrives(&mill, rsm, KHL_DONE, NULL);
+    keys_agree(&mill, "HARBOR", &harbor, "MILL");
+    back(notarized_back, 1);
+    stand(KHL_PHASE_CONFIRMED, 4, 3, KHL_PHASE_CONFIRMED, 3, 4);
+}
+
 void test_exchange(void) {
     uint64_t iv = IV_VALUE;
-    uint8_t one_key[KHL_REQUEST] = {1};
     load_both();
-    build(first_ksm);
+    build(first_ksm, 0);
     arrives(&harbor, first_ksm, KHL_DONE, rsm);
     reports(0, 47, KHL_CLASS_KSM, KHL_SERVICE_NONE, &iv, DATE);
     stand(KHL_PHASE_WAITING, 2, 1, KHL_PHASE_IDLE, 1, 2);
@@ -98,23 +128,19 @@ void test_exchange(void) {
     stand(KHL_PHASE_BROKEN, 2, 1, KHL_PHASE_IDLE, 1, 2);
 
     /* anew; the ESM comes once more, first while it waits and then too late */
-    build(second_ksm);
+    build(second_ksm, 0);
     arrives(&harbor, second_ksm, KHL_DONE, rsm);
     arrives(&mill, rsm, KHL_DONE, NULL);
     arrives(&mill, late_esm, KHL_NONE_WAITING, NULL);
     stand(KHL_PHASE_CONFIRMED, 3, 1, KHL_PHASE_IDLE, 1, 3);
     keys_agree(&mill, "HARBOR", &harbor, "MILL");
 
-    /* the other way, one key without ornament */
-    put_asked(one_key, 0, TWO, 0, "");
-    trying("HARBOR builds a KSM");
-    answers(build_ksm(&harbor, "MILL", one_key, sizeof one_key, KHL_ROOM), KHL_DONE);
-    replies(ksm_back, strlen(ksm_back));
-    arrives(&mill, ksm_back, KHL_DONE, rsm_back);
-    arrives(&harbor, rsm_back, KHL_DONE, NULL);
+    /* the other way */
+    back(ksm_back, 0);
     stand(KHL_PHASE_CONFIRMED, 3, 2, KHL_PHASE_CONFIRMED, 2, 3);
-    keys_agree(&harbor, "MILL", &mill, "HARBOR");
     keys_agree(&mill, "HARBOR", &harbor, "MILL");
+
+    notarized();
 
     /* what is meant for one end is nothing to the other, nor to itself */
     arrives(&mill, second_ksm, KHL_NOT_FOR_US, NULL);

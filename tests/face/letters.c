@@ -1,5 +1,5 @@
-/* A KSM with every combination of errors, by itself and behind every combination of the answers that are tested
- * earlier. */
+/* A KSM, plain and notarized, with every combination of errors, by itself and behind every combination of the answers
+ * that are tested earlier. */
 #include <stdio.h>
 #include <string.h>
 
@@ -38,11 +38,11 @@ static uint32_t count_with(unsigned errors) {
     return errors & COUNT_LAST ? KHL_COUNT_LAST : errors & COUNT_LOW ? EXPECTED - 1 : EXPECTED;
 }
 
-static void write_ksm(struct text *text, struct image *image, unsigned errors, unsigned faults) {
+static void write_ksm(struct text *text, struct image *image, unsigned errors, unsigned faults, int notarized) {
     uint64_t key = errors & KEY_EVEN ? EVEN_KEY : ODD_KEY;
     uint32_t count = count_with(errors);
     const uint8_t *mill = record_of(image, "MILL");
-    begin(text, "KSM", faults & NOT_FOR_US ? "HARBOUR" : "HARBOR", faults & NO_PARTNER ? "MILLS" : "MILL");
+    begin_ksm(text, faults & NOT_FOR_US ? "HARBOUR" : "HARBOR", faults & NO_PARTNER ? "MILLS" : "MILL", notarized);
     add_kd(text, mill, count, key, ".P.K1");
     add_kd(text, mill, count, SECOND_KEY, errors & NAME_FOREIGN ? "..K2.TOPS" : "..K2." TOP_NAME);
     add(text, "IV/%s ", errors & IV_BAD ? "P012345678" : "P0123456789ABCDEF");
@@ -75,14 +75,14 @@ static void write_esm(struct text *text, unsigned letters, uint32_t count) {
     add(text, " )");
 }
 
-static void judged(unsigned errors) {
+static void judged(unsigned errors, int notarized) {
     struct image image, before;
     struct text text, complaint;
     unsigned letters = letters_of(errors);
     make_harbor(&image);
     before = image;
-    write_ksm(&text, &image, errors, 0);
-    trying("a KSM with the errors %02X", errors);
+    write_ksm(&text, &image, errors, 0, notarized);
+    trying("a KSM with the errors %02X, notarized %d", errors, notarized);
     uint32_t answer = receive(&image, text.bytes, text.length, KHL_ROOM);
     answers(answer, letters ? KHL_ERROR : KHL_DONE);
     if (letters == 0)
@@ -93,18 +93,18 @@ static void judged(unsigned errors) {
     same("the image", image.bytes, before.bytes, before.length);
 }
 
-static void refused(unsigned faults, unsigned errors) {
+static void refused(unsigned faults, unsigned errors, int notarized) {
     static const uint32_t order[] = {KHL_BAD_IMAGE, KHL_NO_ROOM, KHL_NO_MESSAGE, KHL_NOT_FOR_US, KHL_NO_PARTNER};
     struct image image;
     struct text text;
     int first = 0;
     make_harbor(&image);
-    write_ksm(&text, &image, errors, faults);
+    write_ksm(&text, &image, errors, faults, notarized);
     if (faults & ILLEGAL)
         put_phase(record_of(&image, "ABBEY"), 4);
     while (!(faults >> first & 1))
         first++;
-    trying("a KSM with the faults %02X and the errors %02X", faults, errors);
+    trying("a KSM with the faults %02X and the errors %02X, notarized %d", faults, errors, notarized);
     answers(receive(&image, text.bytes, text.length, faults & NO_ROOM ? KHL_ROOM - 1 : KHL_ROOM), order[first]);
 }
 
@@ -159,11 +159,13 @@ static void count_spent(void) {
 }
 
 void test_letters(void) {
-    for (unsigned errors = 0; errors < ERRORS; errors++)
-        judged(errors);
-    for (unsigned faults = 1; faults < FAULTS; faults++)
-        for (unsigned errors = 0; errors < ERRORS; errors += 9)
-            refused(faults, errors);
+    for (int notarized = 0; notarized <= 1; notarized++) {
+        for (unsigned errors = 0; errors < ERRORS; errors++)
+            judged(errors, notarized);
+        for (unsigned faults = 1; faults < FAULTS; faults++)
+            for (unsigned errors = 0; errors < ERRORS; errors += 9)
+                refused(faults, errors, notarized);
+    }
     formats();
     count_spent();
 }

@@ -46,19 +46,23 @@ static const char *partner_for(unsigned conditions, const uint32_t *order) {
     return has(conditions, order, KHL_NO_PARTNER) ? "HARBOUR" : "HARBOR";
 }
 
+/* two ways of 12: the kind of the IV, and notarized */
 static void order_of_build_ksm(void) {
     static const uint32_t order[] = {13, 6, 3, 7, 8, 11, 12, 0};
-    for (unsigned conditions = 0; conditions < 1u << 7; conditions++) {
-        struct image image;
-        uint8_t request[KHL_REQUEST] = {1};
-        put_asked(request, 0, has(conditions, order, 11) ? 0 : 0x0101010101010101, KHL_FLAG_P, "");
-        put_iv(request, (enum khl_iv_kind)(has(conditions, order, 12) ? 3 : 0), 0);
-        make_image(&image, conditions, order);
-        trying("build a KSM with the conditions %02X", conditions);
-        answers(build_ksm(&image, partner_for(conditions, order), request, sizeof request,
-                          room_for(conditions, order, KHL_ROOM)),
-                first_of(conditions, order));
-    }
+    for (unsigned conditions = 0; conditions < 1u << 7; conditions++)
+        for (int way = 0; way < 2; way++) {
+            struct image image;
+            uint8_t request[KHL_REQUEST] = {1};
+            int malformed = has(conditions, order, 12);
+            put_asked(request, 0, has(conditions, order, 11) ? 0 : 0x0101010101010101, KHL_FLAG_P, "");
+            put_iv(request, (enum khl_iv_kind)(malformed && way == 0 ? 3 : 0), 0);
+            khl_request_put_notarized(request, malformed && way == 1 ? 2 : way);
+            make_image(&image, conditions, order);
+            trying("build a KSM with the conditions %02X in way %d", conditions, way);
+            answers(build_ksm(&image, partner_for(conditions, order), request, sizeof request,
+                              room_for(conditions, order, KHL_ROOM)),
+                    first_of(conditions, order));
+        }
 }
 
 static void order_of_build_rsi(void) {

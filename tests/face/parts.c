@@ -50,9 +50,9 @@ static void report_parts(void) {
 }
 
 static void request_parts(void) {
-    uint8_t request[73], wanted[73] = {0};
+    uint8_t request[74], wanted[74] = {0};
     trying("the parts of a request");
-    holds(KHL_REQUEST == 73, "its size");
+    holds(KHL_REQUEST == 74, "its size");
     count_up(request, sizeof request);
     holds(khl_request_count(request) == 1, "number of keys");
     holds(khl_request_key(request, 0) == request + 1 && khl_request_key(request, 1) == request + 26, "keys");
@@ -62,13 +62,15 @@ static void request_parts(void) {
     holds(khl_request_iv(request) == request + 52, "IV");
     holds(khl_request_dated(request) == 61, "date flag");
     holds(khl_request_date(request) == request + 61, "date");
+    holds(khl_request_notarized(request) == 74, "notarized");
     memset(request, 0, sizeof request);
     khl_request_put_count(request, 2);
     khl_request_put_flags(request, 0, 5);
     khl_request_put_flags(request, 1, 6);
     khl_request_put_iv_kind(request, KHL_IV_PLAIN);
     khl_request_put_dated(request, 3);
-    wanted[0] = 2, wanted[9] = 5, wanted[34] = 6, wanted[51] = 1, wanted[60] = 3;
+    khl_request_put_notarized(request, 4);
+    wanted[0] = 2, wanted[9] = 5, wanted[34] = 6, wanted[51] = 1, wanted[60] = 3, wanted[73] = 4;
     same("a request put", request, wanted, sizeof wanted);
 }
 

@@ -7,6 +7,7 @@
 
 #define ONE 0x0123456789ABCDEF
 #define TWO 0x8F6E5D4C3B2A1906 /* not of odd parity: it is never marked P */
+#define KSM_REST "KD/0123456789ABCDEF CTP/5 MAC/0123 4567 )"
 
 /* HARBOR with MILL in the second slot: waiting with two keys at count 7, expecting 5 */
 static void make_harbor(struct image *image, enum form form) {
@@ -48,7 +49,7 @@ static void options(void) {
     static const char *const texts[] = {
         "CSM(MCL/DSM RCV/HARBOR ORG/MILL )",       "CSM(MCL/ERS RCV/HARBOR ORG/MILL ANY-THING )",
         "CSM(MCL/RFS RCV/HARBOR ORG/MILL ./*- )",  "CSM(MCL/RTR RCV/HARBOR ORG/MILL  )",
-        "CSM(MCL/KSM RCV/HARBOR ORG/MILL IDC/X )", "CSM(MCL/KSM RCV/HARBOR ORG/MILL NOS/ )",
+        "CSM(MCL/KSM RCV/HARBOR ORG/MILL IDC/X )", "CSM(MCL/KSM RCV/HARBOR ORG/MILL IDC/X NOS/ )",
         "CSM(MCL/KSM RCV/HARBOR ORG/MILL KK/X )",  "CSM(MCL/KSM RCV/HARBOR ORG/MILL *KK/X )",
         "CSM(MCL/KSM RCV/HARBOR ORG/MILL KKU/X )", "CSM(MCL/KSM RCV/HARBOR ORG/MILL *KKU/X )",
         "CSM(MCL/KSM RCV/HARBOR ORG/MILL KDU/X )", "CSM(MCL/RSI RCV/HARBOR ORG/MILL IDU/X )",
@@ -65,15 +66,15 @@ static void options(void) {
     }
 }
 
-/* a good KSM: one key or two, under a single key or a pair, with IV and date or not */
-static void key_message(enum form form, int keys, char iv_kind, const char *date, uint32_t count) {
+/* a good KSM: one key or two, under a single key or a pair, notarized or not, with IV and date or not */
+static void key_message(enum form form, int keys, int notarized, char iv_kind, const char *date, uint32_t count) {
     struct image image, wanted;
     struct text text, confirms;
     uint64_t iv = 0x0011223344556677, mac_key = keys == 2 ? ONE ^ TWO : ONE, last_key = keys == 2 ? TWO : ONE;
     make_harbor(&image, form);
     wanted = image;
     uint8_t *mill = record_of(&wanted, "MILL");
-    begin(&text, "KSM", "HARBOR", "MILL");
+    begin_ksm(&text, "HARBOR", "MILL", notarized);
     add_kd(&text, mill, count, ONE, ".P.K1." TOP_NAME);
     if (keys == 2)
         add_kd(&text, mill, count, TWO, "..P");
@@ -90,8 +91,8 @@ static void key_message(enum form form, int keys, char iv_kind, const char *date
     put_expected(mill, count + 1);
     put_incoming(mill, keys, ONE, "K1", TWO, "P");
 
-    trying("a KSM, form %d, %d keys, IV %c, date %s, count %u", form, keys, iv_kind, date ? date : "-",
-           (unsigned)count);
+    trying("a KSM, form %d, %d keys, notarized %d, IV %c, date %s, count %u", form, keys, notarized, iv_kind,
+           date ? date : "-", (unsigned)count);
     answers(receive(&image, text.bytes, text.length, KHL_ROOM), KHL_DONE);
     reports(0, 47, KHL_CLASS_KSM, KHL_SERVICE_NONE, iv_kind == '-' ? NULL : &iv, date);
     replies(confirms.bytes, confirms.length);
@@ -104,13 +105,36 @@ static void key_message(enum form form, int keys, char iv_kind, const char *date
 }
 
 static void key_messages(void) {
-    for (int keys = 1; keys <= 2; keys++)
-        for (int form = SINGLE; form <= PAIR; form++) {
-            key_message((enum form)form, keys, '-', NULL, 5);
-            key_message((enum form)form, keys, 'P', NULL, 7);
-            key_message((enum form)form, keys, 'E', "840229235959", 258);
-            key_message((enum form)form, keys, '-', "991231000000", 99999998);
-        }
+    for (int kinds = 0; kinds < 8; kinds++) {
+        enum form form = kinds & 1 ? SINGLE : PAIR;
+        int keys = kinds & 2 ? 1 : 2, notarized = kinds >> 2;
+        key_message(form, keys, notarized, '-', NULL, 5);
+        key_message(form, keys, notarized, 'P', NULL, 7);
+        key_message(form, keys, notarized, 'E', "840229235959", 258);
+        key_message(form, keys, notarized, '-', "991231000000", 99999998);
+    }
+}
+
+/* keys that are sealed otherwise than their text says: NOS over plain ones, notarized ones without it or for others */
+static void sealed_otherwise(void) {
+    static const struct {
+        const char *rcv, *org;
+        int notarized;
+    } sealed[] = {{"HARBOR", "MILL", 0}, {"HARBOR", "MILL", 1}, {"MILL", "HARBOR", 1}, {"HARBOR", "ABBEY", 1}};
+    for (int i = 0; i < 8; i++) {
+        struct image image;
+        struct text text, other;
+        make_harbor(&image, i & 1 ? SINGLE : PAIR);
+        begin_ksm(&other, sealed[i / 2].rcv, sealed[i / 2].org, sealed[i / 2].notarized);
+        size_t kd = other.length;
+        add_kd(&other, record_of(&image, "MILL"), 6, TWO, "");
+        begin_ksm(&text, "HARBOR", "MILL", i / 2 != 1);
+        add(&text, "%sCTP/6 ", other.bytes + kd);
+        end_with_mac(&text, TWO, 0);
+        trying("a KSM %s NOS, its key sealed in way %d", i / 2 != 1 ? "with" : "without", i / 2);
+        answers(receive(&image, text.bytes, text.length, KHL_ROOM), KHL_ERROR);
+        reports(KHL_LETTER_M, reply_length, KHL_CLASS_NONE, KHL_SERVICE_NONE, NULL, NULL);
+    }
 }
 
 /* an IV of zeros is an IV, and equal keys are accepted, whose exclusive-or is zero */
@@ -214,6 +238,16 @@ static void lengths(void) {
         "CSM(MCL/ESM RCV/HARBOR ORG/MILL ERF/P )",
         "CSM(MCL/ESM RCV/HARBOR ORG/MILL ERF/MF )",
         "CSM(MCL/RSM RCV/HARBOR ORG/MILL MAC/0123 456f )",
+        "CSM(MCL/KSM RCV/HARBOR ORG/MILL NOS/ )",
+        "CSM(MCL/KSM RCV/HARBOR ORG/MILL NOS/ NOS/ " KSM_REST,
+        "CSM(MCL/KSM RCV/HARBOR ORG/MILL NOS/X " KSM_REST,
+        "CSM(MCL/KSM RCV/HARBOR ORG/MILL NOS/" KSM_REST,
+        "CSM(MCL/KSM RCV/HARBOR ORG/MILL NOS/ IDC/X " KSM_REST,
+        "CSM(MCL/KSM RCV/HARBOR ORG/MILL NOS/ KK/X " KSM_REST,
+        "CSM(MCL/KSM RCV/HARBOR ORG/MILL NOS/ CTP/5 MAC/0123 4567 )",
+        "CSM(MCL/KSM RCV/HARBOR ORG/MILL KD/0123456789ABCDEF NOS/ CTP/5 MAC/0123 4567 )",
+        "CSM(MCL/KSM RCV/HARBOR ORG/MILL KD/0123456789ABCDEF NOS/ " KSM_REST,
+        "CSM(MCL/RSM RCV/HARBOR ORG/MILL NOS/ MAC/0123 4567 )",
         "C",
         "CSM(",
     };
@@ -244,6 +278,7 @@ void test_receive(void) {
     services();
     options();
     key_messages();
+    sealed_otherwise();
     zero_iv_and_equal_keys();
     confirmations();
     failures();

@@ -9,7 +9,7 @@
 #include "check.h"
 #include "tests.h"
 
-enum { STACK = 64 * 1024, CASES = 6 };
+enum { STACK = 64 * 1024, CASES = 7 };
 
 static uint8_t stack[STACK];
 static ucontext_t here, there;
@@ -79,9 +79,9 @@ static size_t depth(void (*call)(void), uint32_t wanted, const char *name) {
     return most;
 }
 
-/* a KSM with all that it can have, good or with all the errors that are judged together */
-static void write_ksm(struct text *to, const uint8_t *record, uint32_t count, int good) {
-    begin(to, "KSM", "OURS", (const char *)last);
+/* a KSM with all that it can have, notarized or not, good or with all the errors that are judged together */
+static void write_ksm(struct text *to, const uint8_t *record, uint32_t count, int notarized, int good) {
+    begin_ksm(to, "OURS", (const char *)last, notarized);
     add_kd(to, record, count, 0x133457799BBCDFF1, ".P.ABCDEFGHIJKLMNOP.TOP");
     add_kd(to, record, count, 0x0123456789ABCDEF, ".P.ABCDEFGHIJKLMNOP.TOP");
     add(to, "IV/%c0123456789ABCDEF EDK/%c40229235959 CTP/%u ", good ? 'E' : 'X', good ? '8' : '9', (unsigned)count);
@@ -96,8 +96,8 @@ static void make_full(void) {
     put_top(record, PAIR, LEFT, RIGHT);
     put_sending(record, 99999990, KHL_PHASE_WAITING, 2);
     put_expected(record, 99999990);
-    write_ksm(&texts[0], record, 99999998, 1);
-    write_ksm(&texts[1], record, 99999989, 0);
+    write_ksm(&texts[0], record, 99999998, 0, 1);
+    write_ksm(&texts[1], record, 99999989, 1, 0);
     begin(&texts[2], "RSM", "OURS", (const char *)last);
     end_with_mac(&texts[2], 0x1111111111111111 ^ 0x2222222222222222, 0);
     begin(&texts[3], "ESM", "OURS", (const char *)last);
@@ -106,6 +106,7 @@ static void make_full(void) {
     add(&texts[4], "SVR/*KK.KD.IV EDC/0123 4567 )");
     begin(&texts[5], "DSM", "OURS", (const char *)last);
     add(&texts[5], "%0*d )", KHL_TEXT_MOST - 2 - (int)texts[5].length, 0);
+    write_ksm(&texts[6], record, 99999998, 1, 1);
 }
 
 static void row(const char *name, size_t bytes) {
@@ -115,7 +116,7 @@ static void row(const char *name, size_t bytes) {
 }
 
 void test_stack(void) {
-    static const uint32_t wanted[CASES] = {0, 4, 0, 0, 0, 4};
+    static const uint32_t wanted[CASES] = {0, 4, 0, 0, 0, 4, 0};
     size_t most = 0;
     make_full();
     printf("bytes of stack, 64 partners\n");
@@ -132,7 +133,10 @@ void test_stack(void) {
     put_asked(request, 1, 0x0123456789ABCDEF, 7, "ABCDEFGHIJKLMNOP");
     put_iv(request, KHL_IV_ENCIPHERED, 0);
     put_date(request, "840229235959");
-    row("build_ksm", depth(call_build_ksm, KHL_DONE, "build_ksm"));
+    most = depth(call_build_ksm, KHL_DONE, "build_ksm");
+    khl_request_put_notarized(request, 1);
+    size_t notarized = depth(call_build_ksm, KHL_DONE, "build_ksm");
+    row("build_ksm", notarized > most ? notarized : most);
     row("build_rsi", depth(call_build_rsi, KHL_DONE, "build_rsi"));
     row("ask", depth(call_ask, KHL_DONE, "ask"));
     row("remove", depth(call_remove, KHL_DONE, "remove"));

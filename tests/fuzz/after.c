@@ -5,7 +5,7 @@
 #include <stdlib.h>
 #include <string.h>
 
-#include "finish.h"
+#include "../seal.h"
 #include "must.h"
 
 static uint8_t reply[KHL_ROOM], report[KHL_REPORT];
@@ -109,14 +109,19 @@ static void given_up(const uint8_t *old, const uint8_t *new) {
 
 /* ---- the partner's end */
 
-/* each KD is a key of the request, sealed as our own text would have it */
+/* NOS stands there where it was asked for, and each KD is a key of the request, sealed as our own text would have it */
 static void sealed(const uint8_t *record, const struct outcome *o, uint8_t *request) {
-    struct slice text = {o->written.bytes, o->length};
+    struct slice text = {o->written.bytes, o->length}, org = contents_of(text, " ORG/"),
+                 rcv = contents_of(text, " RCV/");
+    struct ends ends = {{org.bytes, org.length}, {rcv.bytes, rcv.length}};
+    int notarized = khl_request_notarized(request), nos = contents_of(text, " NOS/").bytes != text.bytes;
+    must(nos == notarized, "NOS is %d where notarized is %d", nos, notarized);
     for (int i = 0; i < khl_request_count(request); i++) {
         char digits[17];
         struct slice kd = contents_of(text, " KD/");
         uint64_t key = khl_number(khl_request_key(request, i), KHL_KEY);
-        snprintf(digits, sizeof digits, "%016" PRIX64, seal(record, count_of(text, " CTP/"), key));
+        snprintf(digits, sizeof digits, "%016" PRIX64,
+                 seal(record, notarized ? &ends : NULL, count_of(text, " CTP/"), key));
         must(kd.length >= 16 && memcmp(kd.bytes, digits, 16) == 0, "a key is not sealed as it should be");
         text = (struct slice){kd.bytes, (size_t)(o->written.bytes + o->length - kd.bytes)};
     }

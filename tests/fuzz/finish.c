@@ -2,6 +2,8 @@
 
 #include <string.h>
 
+#include "../seal.h"
+
 enum { COVERED = 4 }; /* a MAC begins behind `CSM(` */
 
 struct text {
@@ -48,24 +50,24 @@ static uint64_t read_count(const struct text *text) {
     return count;
 }
 
-uint64_t seal(const uint8_t *record, uint64_t count, uint64_t key) {
-    const uint8_t *top = khl_record_top(record);
-    uint64_t left = khl_number(top, KHL_KEY) ^ count, sealed = khl_test_encipher(left, key);
-    if (khl_record_form(record) != KHL_FORM_PAIR)
-        return sealed;
-    uint64_t right = khl_number(top + KHL_KEY, KHL_KEY) ^ count;
-    return khl_test_encipher(left, khl_test_decipher(right, sealed));
+/* the contents of the first field of that tag, up to its blank */
+static struct identity identity_of(const struct text *text, const char *tag) {
+    size_t from = contents_of(text, tag, 0), to = from;
+    while (to < text->length && text->bytes[to] != ' ')
+        to++;
+    return (struct identity){text->bytes + from, to - from};
 }
 
 /* seals at most two keys; gives how many, their exclusive-or and the last */
 static int seal_keys(struct text *text, const uint8_t *record, uint64_t *both, uint64_t *last) {
-    int keys = 0;
+    struct ends ends = {identity_of(text, " ORG/"), identity_of(text, " RCV/")};
+    int keys = 0, notarized = contents_of(text, " NOS/ ", 0) < text->length && ends.rcv.length > 0;
     for (size_t at = 0; keys < 2; keys++) {
         at = contents_of(text, " KD/", at);
         if (!read_hex(text, at, 16, last))
             break;
         *both ^= *last;
-        put_hex(text, at, 16, seal(record, read_count(text), *last));
+        put_hex(text, at, 16, seal(record, notarized ? &ends : NULL, read_count(text), *last));
     }
     return keys;
 }
@@ -78,10 +80,8 @@ static uint64_t outgoing(const uint8_t *record) {
 void finish(uint8_t *bytes, size_t length, struct image *ours) {
     struct text text = {bytes, length};
     uint64_t mac_key = 0, last = 0, iv, digits;
-    size_t org = contents_of(&text, " ORG/", 0), end = org;
-    while (end < length && bytes[end] != ' ')
-        end++;
-    const uint8_t *record = record_of(ours, bytes + org, end - org);
+    struct identity org = identity_of(&text, " ORG/");
+    const uint8_t *record = record_of(ours, org.characters, org.length);
     if (record == NULL)
         return;
     if (seal_keys(&text, record, &mac_key, &last) == 0)

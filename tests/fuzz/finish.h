@@ -8,11 +8,8 @@
 
 #include "tables.h"
 
-/* Takes the digits of each KD and of an IV marked E as clear, seals them as its originator would, and writes the MAC;
- * that of a text without KD is made with our outgoing keys, as in an RSM. */
+/* Takes the digits of each KD and of an IV marked E as clear, seals them as its originator would, notarized where the
+ * text has NOS, and writes the MAC; that of a text without KD is made with our outgoing keys, as in an RSM. */
 void finish(uint8_t *text, size_t length, struct image *ours);
-
-/* A key as a KSM of that count carries it. */
-uint64_t seal(const uint8_t *record, uint64_t count, uint64_t key);
 
 #endif

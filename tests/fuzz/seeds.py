@@ -42,11 +42,12 @@ def text(name, table, contents, finished=True, org="MILL", rcv="HARBOR", **more)
     seed("receive-" + name, "RECEIVE", table, message, flags=FINISHED * finished, **more)
 
 
-def request(count, first=(KEY, 0, ""), second=(OTHER, 0, ""), iv_kind=0, date=""):
-    """The 73 bytes of a request."""
+def request(count, first=(KEY, 0, ""), second=(OTHER, 0, ""), iv_kind=0, date="", notarized=0):
+    """The 74 bytes of a request."""
     asked = [bytes.fromhex(key) + bytes([flags]) + name.ljust(16).encode() for key, flags, name in (first, second)]
     iv = bytes([iv_kind]) + bytes.fromhex("1234567890ABCDEF")
-    return bytes([count]) + b"".join(asked) + iv + bytes([date != ""]) + date.rjust(12, "0").encode()
+    dated = bytes([date != ""]) + date.rjust(12, "0").encode()
+    return bytes([count]) + b"".join(asked) + iv + dated + bytes([notarized])
 
 
 def messages():
@@ -66,6 +67,12 @@ def messages():
     text("ksm-old-count-P", "TAKEN", f"KSM KD/{KEY} CTP/1 {mac}")
     text("ksm-last-count-P", "IDLE", f"KSM KD/{KEY} CTP/99999999 {mac}", org="ABBEY")
     text("ksm-FMP", "SPENT", f"KSM KD/{KEY} IV/E EDK/991301000000 CTP/7 {mac}", finished=False)
+    text("ksm-notarized", "TAKEN", f"KSM NOS/ KD/{KEY} CTP/2 {mac}")
+    text("ksm-notarized-pair", "IDLE", f"KSM NOS/ {both}CTP/258 {mac}", org="ABBEY")
+    text("ksm-notarized-K", "IDLE", f"KSM NOS/ KD/03{KEY[2:]}.P CTP/5 {mac}")
+    text("ksm-notarized-otherwise-M", "IDLE", f"KSM NOS/ KD/{KEY} CTP/5 {mac}", finished=False)
+    text("ksm-nos-twice", "IDLE", f"KSM NOS/ NOS/ KD/{KEY} CTP/5 {mac}")
+    text("ksm-nos-without-a-key", "IDLE", "KSM NOS/ IDC/ANYONE ")
     text("ksm-with-an-option", "IDLE", "KSM *KKU/ANY REST-OF.IT ")
     text("rsm-for-one-key", "WAITING", f"RSM {mac}")
     text("rsm-for-two-keys", "FULL", f"RSM {mac}", org="ABBEY")
@@ -91,6 +98,10 @@ def building():
     seed("ksm-last-count", "BUILD_KSM", "SPENT", "MILL", request(1))
     seed("ksm-even-key", "BUILD_KSM", "IDLE", "MILL", request(2, second=("03" + OTHER[2:], 1, "")))
     seed("ksm-equal-keys", "BUILD_KSM", "IDLE", "MILL", request(2, second=(KEY, 0, "")))
+    for partner in ("MILL", "ABBEY"):
+        seed(f"ksm-notarized-for-{partner}", "BUILD_KSM", "BROKEN", partner, request(2, iv_kind=2, notarized=1))
+    seed("ksm-notarized-2", "BUILD_KSM", "IDLE", "MILL", request(1, notarized=2))
+    seed("ksm-a-byte-short", "BUILD_KSM", "IDLE", "MILL", request(1)[:-1])
     seed("ksm-bad-name", "BUILD_KSM", "IDLE", "MILL", request(1, (KEY, 2, "A B")))
     seed("rsi-built", "BUILD_RSI", "CONFIRMED", "ABBEY", "KK.KD.IV")
 

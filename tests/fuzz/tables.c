@@ -222,4 +222,5 @@ void make_request(uint8_t *request, int keys) {
     khl_put_number(khl_request_iv(request), KHL_KEY, 0x1234567890ABCDEF);
     khl_request_put_dated(request, 1);
     memcpy(khl_request_date(request), "840229235959", KHL_DATE);
+    khl_request_put_notarized(request, keys == 2);
 }

@@ -45,7 +45,7 @@ uint8_t *record_of(struct image *image, const uint8_t *identity, size_t length);
 /* The card at a partner's end, which has just loaded us. */
 void make_partner(struct image *theirs, const struct image *ours, const uint8_t *record);
 
-/* A request for one key or two, with all that a KSM can have. */
+/* A request for one key or two, with all that a KSM can have; two are notarized. */
 void make_request(uint8_t *request, int keys);
 
 #endif

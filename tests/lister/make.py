@@ -23,13 +23,14 @@ LINES = [
     (f"CSM(MCL/RSI {HEAD}SVR/ EDC/0123 ABCD )", "RSI"),
     (f"CSM(MCL/KSM {HEAD}KD/{KEY} CTP/1 MAC/0123 4567 )", "KSM"),
     (f"CSM(MCL/KSM {HEAD}KD/{KEY}.P.K1.TOP KD/{KEY}...TOP IV/E{KEY} EDK/840229235959 CTP/99999999 MAC/89AB CDEF )", "KSM"),
+    (f"CSM(MCL/KSM {HEAD}NOS/ KD/{KEY} CTP/1 MAC/0123 4567 )", "KSM"),
     (f"CSM(MCL/RSM {HEAD}MAC/0123 4567 )", "RSM"),
     (f"CSM(MCL/ESM {HEAD}ERF/M )", "ESM"),
     (f"CSM(MCL/ESM {HEAD}CTP/5 CTR/4 ERF/FMP EDC/0123 4567 )", "ESM"),
     # each option
     *[(f"CSM(MCL/{name} {HEAD})", name) for name in ("DSM", "ERS", "RFS", "RTR")],
     (f"CSM(MCL/DSM {HEAD}IDD/KEY1 MAC/0123 4567 )", "DSM"),
-    *[(f"CSM(MCL/KSM {HEAD}{tag}/X-Y.* )", "KSM") for tag in ("IDC", "NOS", "KK", "*KK", "KKU", "*KKU", "KDU")],
+    *[(f"CSM(MCL/KSM {HEAD}{tag}/X-Y.* )", "KSM") for tag in ("IDC", "KK", "*KK", "KKU", "*KKU", "KDU")],
     *[(f"CSM(MCL/RSI {HEAD}{tag}/X )", "RSI") for tag in ("IDU", "IDC")],
     # no messages
     ("", "-"),
@@ -38,6 +39,8 @@ LINES = [
     (f"CSM(MCL/RSI {HEAD}SVR/KD.IV )\r", "-"),
     (f" CSM(MCL/RSI {HEAD}SVR/KD.IV )", "-"),
     (f"CSM(MCL/RSI {HEAD}SVR/KD.IV)", "-"),
+    *[(f"CSM(MCL/KSM {HEAD}{fields}CTP/1 MAC/0123 4567 )", "-") for fields in
+      ("NOS/ ", f"NOS/X-Y.* KD/{KEY} ", f"NOS/ NOS/ KD/{KEY} ", f"NOS/ IDC/X KD/{KEY} ", f"KD/{KEY} NOS/ ")],
     (f"CSM(MCL/KSM {HEAD}KD/{KEY}. CTP/1 MAC/0123 4567 )", "-"),
     (f"CSM(MCL/KSM {HEAD}KD/{KEY} CTP/01 MAC/0123 4567 )", "-"),
     (f"CSM(MCL/KSM {HEAD}KD/{KEY} CTP/100000000 MAC/0123 4567 )", "-"),

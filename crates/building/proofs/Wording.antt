@@ -36,7 +36,7 @@ use Rattle.calls.specs.declared.Request.{Request}
 use Rattle.calls.specs.Words.{if_then_else_}
 use Rattle.calls.specs.Outcome.{Turn}
 use Rattle.calls.specs.Receive.{to-partner}
-use Rattle.calls.specs.Build.{bad-key, wants-idk1, wants-idk2, asked, kd-for, iv-for, outgoing-of, ksm-body, ksm-text}
+use Rattle.calls.specs.Build.{bad-key, wants-idk1, wants-idk2, wants-nos, asked, kd-for, iv-for, outgoing-of, ksm-body, ksm-text}
 use Rattle.calls.proofs.Requests.{Formed, Keyed, formed, one, two, not-two, idk1-legal}
 use Rattle.calls.proofs.Written.{sent, sent-written, to-them}
 use Rattle.outcome.specs.Acts.{sound, Ready}
@@ -87,34 +87,35 @@ iv-is q = go (conceal (keys-in (outgoing-of q)) (q .iv)) (eqb (q .kind) 1) (eqb 
 
 -- the reading that its writer is given
 abbrev unsealed-for : Text → Entry → Request → ℕ → Reading
-unsealed-for own e q = unsealed-ksm (bare (e .identity .bytes)) own (ksm-for e q)
+unsealed-for own e q = unsealed-ksm (bare (e .identity .bytes)) own (ksm-for own e q)
 
 abbrev pub reading-for : Text → Entry → Request → Reading
-reading-for own e q = ksm-reading (bare (e .identity .bytes)) own (ksm-for e q) (mac-key (keys-in (outgoing-of q)))
+reading-for own e q = ksm-reading (bare (e .identity .bytes)) own (ksm-for own e q) (mac-key (keys-in (outgoing-of q)))
 
 module _ (own : Text) (e : Entry) (q : Request) (lawful : partner.legal e ≡ true) (f : Formed q) where
-  kd-is : (k : KeyRequest) → bad-key k ≡ false → kd-of (key-for e k) ≡ kd-for e k
+  kd-is : (k : KeyRequest) → bad-key k ≡ false → kd-of (key-for own e q k) ≡ kd-for own e q k
   kd-is k h = λ j. record {
-    key = kd-for e k .key;
-    p = kd-for e k .p;
+    key = kd-for own e q k .key;
+    p = kd-for own e q k .p;
     idk1 = name-is (wants-idk1 k) (k .name)
         (λ p. sym (ap (λ (b : Bool). legal-name (asked b (bare (k .name .bytes)))) p) ∙ idk1-legal k h) j;
     idk2 = name-is (wants-idk2 k) (e .top .name) (λ _. filled-name (e .top .name .bytes) (rules e lawful .name-filled)) j;
   }
 
-  first-is : Keyed q → kd-of (key-for e (q .first)) ≡ kd-for e (q .first)
+  first-is : Keyed q → kd-of (key-for own e q (q .first)) ≡ kd-for own e q (q .first)
   first-is (one p h) = kd-is (q .first) h
   first-is (two p r h i) = kd-is (q .first) h
 
-  second-is : Keyed q → there (eqb (q .count) 2) (kd-of (second-for e q (key-for e (q .first))))
-      ≡ asked (eqb (q .count) 2) (kd-for e (q .second))
+  second-is : Keyed q → there (eqb (q .count) 2) (kd-of (second-for own e q (key-for own e q (q .first))))
+      ≡ asked (eqb (q .count) 2) (kd-for own e q (q .second))
   unfolding second-for if_then_else_
   second-is (one p h) = rw (not-two q p)
   second-is (two p r h i) = rw r (ap some (kd-is (q .second) i))
 
-  unsealed-is : (m : ℕ) → unsealed-for own e q m ≡ to-partner own e (ksm-body e q m)
+  unsealed-is : (m : ℕ) → unsealed-for own e q m ≡ to-partner own e (ksm-body own e q m)
   unfolding ksm-body ksm-for
   unsealed-is m = λ j. to-partner own e (ksm (record {
+    nos = wants-nos q;
     kd = first-is (f .keys) j;
     second = second-is (f .keys) j;
     iv = iv-is q j;
@@ -129,7 +130,7 @@ module _ (own : Text) (e : Entry) (q : Request) (lawful : partner.legal e ≡ tr
   reading-is =
       let k = mac-key (keys-in (outgoing-of q)) in
       unsealed-is (mac k (covered-part (unsealed-for own e q 0)))
-      ∙ ap (λ (r : Reading). to-partner own e (ksm-body e q (mac k (covered-part r)))) (unsealed-is 0)
+      ∙ ap (λ (r : Reading). to-partner own e (ksm-body own e q (mac k (covered-part r)))) (unsealed-is 0)
 
   -- it is legal, and its text is that of the steps
   pub reading-good : is-name own ≡ true
@@ -154,16 +155,16 @@ ksm-wrote own e q l g =
 
 -- the parts as they were made are those parts
 pub made : {rcv : Text} {k : Ksm} {key : ℕ} (own : Text) (e : Entry) (q : Request) → rcv ≡ bare (e .identity .bytes)
-    → k ≡ ksm-for e q → key ≡ mac-key (keys-in (outgoing-of q)) → ksm-reading rcv own k key ≡ reading-for own e q
+    → k ≡ ksm-for own e q → key ≡ mac-key (keys-in (outgoing-of q)) → ksm-reading rcv own k key ≡ reading-for own e q
 made own e q a b c = λ t. ksm-reading (a t) own (b t) (c t)
 
 -- the second key as it was made is that one
-pub seconds : (e : Entry) (q : Request) (first : Key) {sealed : Blocks} → sealed ≡ sealed-for e q
-    → second-as e q (sealed .second) first ≡ second-for e q first
+pub seconds : (own : Text) (e : Entry) (q : Request) (first : Key) {sealed : Blocks} → sealed ≡ sealed-for own e q
+    → second-as e q (sealed .second) first ≡ second-for own e q first
 unfolding second-as second-for sealed-for if_then_else_
-seconds e q first {sealed} h = go (eqb (q .count) 2) refl
+seconds own e q first {sealed} h = go (eqb (q .count) 2) refl
   where
-    go : (b : Bool) → eqb (q .count) 2 ≡ b → second-as e q (sealed .second) first ≡ second-for e q first
+    go : (b : Bool) → eqb (q .count) 2 ≡ b → second-as e q (sealed .second) first ≡ second-for own e q first
     go true p = rw p (ap (key-as e (q .second)) (second-made _ _ h p))
     go false p = rw p
 

@@ -50,15 +50,22 @@ pub(crate) fn outgoing(q: Request) -> KeySet
     partner::two_keys(first, outgoing_key(q.second))
 }
 
-// The keys of a request enciphered: under the top key offset by the next send count.
-fn sealed_for(e: Entry, q: Request) -> Blocks
-    ensures { λ r. ⌜ r ≡ parts.sealed-for e q ⌝ }
+// The keys of a request enciphered under the working key of the next send count, plain or notarized from us to the partner.
+fn sealed_for(own: &[u8], e: Entry, q: Request) -> Blocks
+    ensures { λ r. ⌜ r ≡ parts.sealed-for (now (own .entry)) e q ⌝ }
 {
     let one = q.first;
     let two = q.second;
     let sending = e.sending;
+    let identity = e.identity;
     keying::seal(
-        keying::working(partner::top_of(e.top), sending.next as u64),
+        keying::working(
+            q.notarized == 1,
+            own,
+            octets::bare(&identity.bytes),
+            partner::top_of(e.top),
+            sending.next as u64,
+        ),
         Blocks {
             first: one.key,
             second: two.key,
@@ -108,16 +115,17 @@ fn vector(q: Request) -> Vector
 }
 
 // What the KSM of a request says, with the next send count.
-fn ksm_for(e: Entry, q: Request) -> Ksm
-    ensures { λ r. ⌜ r ≡ parts.ksm-for e q ⌝ }
+fn ksm_for(own: &[u8], e: Entry, q: Request) -> Ksm
+    ensures { λ r. ⌜ r ≡ parts.ksm-for (now (own .entry)) e q ⌝ }
 {
     let sending = e.sending;
-    let sealed = sealed_for(e, q);
+    let sealed = sealed_for(own, e, q);
     let first = key_as(e, q.first, sealed.first);
     let second = second_as(e, q, sealed.second, first);
     let date = q.date;
     let edk = date.digits;
     Ksm {
+        nos: q.notarized == 1,
         first,
         two: q.count == 2,
         second,
@@ -140,7 +148,7 @@ pub(crate) fn write(own: &[u8], e: Entry, q: Request, reply: &mut [u8]) -> usize
         reply,
         octets::bare(&identity.bytes),
         own,
-        ksm_for(e, q),
+        ksm_for(own, e, q),
         mac_key,
     ))
 }

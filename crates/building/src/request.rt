@@ -81,7 +81,7 @@ fn bad_keys(q: Request) -> bool
     true
 }
 
-// Whether a field of the request is malformed: its keys, the IV's kind, the date's flag, the date.
+// Whether a field of the request is malformed: its keys, the IV's kind, the flags of date and notarization, the date.
 pub(crate) fn malformed(q: Request) -> bool
     ensures { λ r. ⌜ r ≡ building.malformed q ⌝ }
 {
@@ -92,6 +92,9 @@ pub(crate) fn malformed(q: Request) -> bool
         return true;
     }
     if 2 <= q.dated {
+        return true;
+    }
+    if 2 <= q.notarized {
         return true;
     }
     let date = q.date;

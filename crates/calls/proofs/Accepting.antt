@@ -34,22 +34,22 @@ use Rattle.calls.proofs.Written.{rsm-written}
 use Rattle.calls.proofs.Tables.{own-name, put-back, entry-held, held-legal, turned-after}
 
 -- a KSM passes every test
-pub record Passes (e : Entry) (text : Text) (m : Ksm) : Type 0 where
+pub record Passes (us : Text) (e : Entry) (text : Text) (m : Ksm) : Type 0 where
   pub names : any (foreign e) (kds m) ≡ false
-  pub parity : any (uneven e m) (kds m) ≡ false
-  pub format : bad-format (brought e m) m ≡ false
-  pub sealed : m .mac ≡ mac (mac-key (keys-in (brought e m))) (covered text)
+  pub parity : any (uneven us e m) (kds m) ≡ false
+  pub format : bad-format (brought us e m) m ≡ false
+  pub sealed : m .mac ≡ mac (mac-key (keys-in (brought us e m))) (covered text)
   pub fresh : e .receiving .expected ≤ m .ctp
   pub not-last : m .ctp < limit
 
 -- and is accepted
 pub record Taken-in (us id : Text) (e : Entry) (m : Ksm) (a : After) : Type 0 where
   pub answered : a .outcome .answer ≡ 0
-  pub returned : a .outcome .told ≡ keys (iv-of (brought e m) m) (m .edk)
-  pub entry : entry-of id (a .table) ≡ some (with-receiving e (accepted (m .ctp) (brought e m)))
+  pub returned : a .outcome .told ≡ keys (iv-of (brought us e m) m) (m .edk)
+  pub entry : entry-of id (a .table) ≡ some (with-receiving e (accepted (m .ctp) (brought us e m)))
   pub message : Rsm
   pub written : Carries us id (rsm message) (a .outcome .reply)
-  pub sealed : message .mac ≡ mac (mac-key (keys-in (brought e m))) (covered (a .outcome .reply))
+  pub sealed : message .mac ≡ mac (mac-key (keys-in (brought us e m))) (covered (a .outcome .reply))
 
 -- a request passes every test
 pub record Fit (e : Entry) (q : Request) : Type 0 where
@@ -74,8 +74,8 @@ module _ (t : Table) (lawful : legal t ≡ true) (room : ℕ) (roomy : 256 ≤ r
 
 -- ---- a KSM
 
-pub ksm-turn : (us : Text) (e : Entry) (text : Text) (m : Ksm) → Passes e text m → by-class.receive us e text (ksm m)
-    ≡ done (with-receiving e (accepted (m .ctp) (brought e m))) (rsm-text us e (brought e m)) (keys (iv-of (brought e m) m) (m .edk))
+pub ksm-turn : (us : Text) (e : Entry) (text : Text) (m : Ksm) → Passes us e text m → by-class.receive us e text (ksm m)
+    ≡ done (with-receiving e (accepted (m .ctp) (brought us e m))) (rsm-text us e (brought us e m)) (keys (iv-of (brought us e m) m) (m .edk))
 unfolding by-class.receive receive-ksm judged if_then_else_ faults bad-mac bad-count
 ksm-turn us e text m good =
     let k = good .not-last in
@@ -83,17 +83,17 @@ ksm-turn us e text m good =
       good .names,
       good .parity,
       good .format,
-      eq-eqb (mac (mac-key (keys-in (brought e m))) (covered text)) (m .mac) (sym (good .sealed)),
+      eq-eqb (mac (mac-key (keys-in (brought us e m))) (covered text)) (m .mac) (sym (good .sealed)),
       le-ltb (m .ctp) (e .receiving .expected) (good .fresh),
       ne-eqb (m .ctp) limit (λ i. omega arith),
     )
 
 pub ksm-accepted : (t : Table) (room : ℕ) (text id : Text) (m : Ksm) (e : Entry) → legal t ≡ true → 256 ≤ room
-    → Carries id (bare (t .own)) (ksm m) text → entry-of id t ≡ some e → Passes e text m
+    → Carries id (bare (t .own)) (ksm m) text → entry-of id t ≡ some e → Passes (bare (t .own)) e text m
     → Taken-in (bare (t .own)) id e m (run t (receive room text))
 ksm-accepted t room text id m e l r c k g =
     let us = bare (t .own) in
-    let set = brought e m in
+    let set = brought us e m in
     let h = entry-held t id e k in
     let x = rsm-written us e (own-name t l) (held-legal t id e l h) set in
     rw (receive-turns t l room r id e k text (ksm m) c, ksm-turn us e text m g) (record {

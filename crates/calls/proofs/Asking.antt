@@ -148,6 +148,7 @@ request-formed q h =
       date = λ p.
           let i : not (is-date (q .date .digits)) ≡ false = rw (eq-eqb (q .dated) 1 p) at (t .date) in
           not-false (is-date (q .date .digits)) i;
+      notarized = let i = ltb-true (q .notarized) 2 (not-false _ (t .notarized)) in omega arith;
     }
 
 pub formed-request : (q : Request) → Formed-request q → malformed q ≡ false
@@ -157,6 +158,7 @@ formed-request q h =
       keys-formed q h,
       lt-ltb (q .kind) 3 (let i = h .iv in omega arith),
       lt-ltb (q .dated) 2 (let i = h .dated in omega arith),
+      lt-ltb (q .notarized) 2 (let i = h .notarized in omega arith),
     ) (by-test (eqb (q .dated) 1) (λ p. rw (p, h .date (eqb-true (q .dated) 1 p))) (λ p. rw p))
 
 -- ---- all of it

@@ -76,12 +76,12 @@ module _ (t : Table) (room : ℕ) (text id : Text) (m : Ksm) (e : Entry) (g : Co
       told t room text id (ksm m) e I none g c
       (rw (of-one (foreign e) m k i (not-failing (foreign e k) (λ p. n (ours e k p))))) (esm-legal I refl refl)
 
-  pub even-is-K : ((k : Kd) → Kd-of m k → Ours e k) → (k : Kd) → Kd-of m k → k .p ≡ true → odd (in-clear e m k) ≡ false
+  pub even-is-K : ((k : Kd) → Kd-of m k → Ours e k) → (k : Kd) → Kd-of m k → k .p ≡ true → odd (in-clear (bare (t .own)) e m k) ≡ false
       → Tells (bare (t .own)) id (ascii "K") none none (run t (receive room text) .outcome)
   unfolding by-class.receive receive-ksm uneven if_then_else_
   even-is-K f k i p h =
       told t room text id (ksm m) e K none g c
-      (rw (no-foreign e m f, of-one (uneven e m) m k i (rw (p, h)))) (esm-legal K refl refl)
+      (rw (no-foreign e m f, of-one (uneven (bare (t .own)) e m) m k i (rw (p, h)))) (esm-legal K refl refl)
 
 -- ---- then F, M and P together
 
@@ -122,28 +122,28 @@ counts-told us id w x y a false h = h
 
 -- what is judged so, of a KSM with good names and parity
 module _ (us : Text) (e : Entry) (text : Text) (m : Ksm) (set : KeySet) (f s c : Bool) (l : within 1 limit (m .ctp) ≡ true)
-    (n : (k : Kd) → Kd-of m k → Ours e k) (u : (k : Kd) → Kd-of m k → Even-only-unmarked e m k) (b : Brings e m set)
+    (n : (k : Kd) → Kd-of m k → Ours e k) (u : (k : Kd) → Kd-of m k → Even-only-unmarked us e m k) (b : Brings us e m set)
     (jf : Judged (Formed-ksm set m) f) (js : Judged (Sealed set text (m .mac)) s)
     (jc : Judged (In-turn (e .receiving .expected) (m .ctp)) c) where
   pub judged-turn : f && s && c ≡ false
       → by-class.receive us e text (ksm m) ≡ error us e (letters f s c) (counts c (e .receiving .expected) (m .ctp))
   unfolding by-class.receive receive-ksm judged faults if_then_else_
   judged-turn h =
-      let i = brings-only e m set b in
-      let p : bad-format (brought e m) m ≡ not f =
+      let i = brings-only us e m set b in
+      let p : bad-format (brought us e m) m ≡ not f =
       subst (λ (k : KeySet). bad-format k m ≡ not f) i
       (judged-by (bad-format set m) f (ksm-formed set m) (formed-ksm set m) jf) in
-      let q : bad-mac (brought e m) text (m .mac) ≡ not s =
+      let q : bad-mac (brought us e m) text (m .mac) ≡ not s =
       subst (λ (k : KeySet). bad-mac k text (m .mac) ≡ not s) i
       (judged-by (bad-mac set text (m .mac)) s (is-sealed set text (m .mac)) (sealed-is set text (m .mac)) js) in
       let r = judged-by (bad-count (e .receiving .expected) (m .ctp)) c (in-turn (e .receiving .expected) (m .ctp) l)
       (turn-in (e .receiving .expected) (m .ctp)) jc in
-      let v = of-all (uneven e m) m (λ k j. not-uneven e m k (u k j)) in
+      let v = of-all (uneven us e m) m (λ k j. not-uneven us e m k (u k j)) in
       rw (no-foreign e m n, v, p, q, r, some-letter f s c h)
 
 pub faults-told : (t : Table) (room : ℕ) (text id : Text) (m : Ksm) (e : Entry) (set : KeySet) (f s c : Bool)
     → Comes t room id e → Carries id (bare (t .own)) (ksm m) text
-    → ((k : Kd) → Kd-of m k → Ours e k) → ((k : Kd) → Kd-of m k → Even-only-unmarked e m k) → Brings e m set
+    → ((k : Kd) → Kd-of m k → Ours e k) → ((k : Kd) → Kd-of m k → Even-only-unmarked (bare (t .own)) e m k) → Brings (bare (t .own)) e m set
     → Judged (Formed-ksm set m) f → Judged (Sealed set text (m .mac)) s → Judged (In-turn (e .receiving .expected) (m .ctp)) c
     → f && s && c ≡ false
     → Tells (bare (t .own)) id (unless f (ascii "F") ++ (unless s (ascii "M") ++ unless c (ascii "P")))

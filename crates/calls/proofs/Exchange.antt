@@ -11,7 +11,8 @@ use Rattle.octets.specs.Part.{bare, found}
 use Rattle.octets.proofs.Comparing.{same-self as same-refl}
 use Rattle.keying.specs.declared.Top.{Top}
 use Rattle.keying.specs.Parity.{odd}
-use Rattle.keying.specs.Keys.{working, seal, unseal}
+use Rattle.keying.specs.Keys.{unseal}
+use Rattle.keying.specs.Working.{working}
 use Rattle.keying.specs.Mac.{mac-key, mac}
 use Rattle.keying.specs.Iv.{conceal, reveal}
 use Rattle.keying.specs.Date.{is-date}
@@ -31,8 +32,8 @@ use Rattle.calls.specs.declared.Request.{Request}
 use Rattle.calls.specs.Words.{if_then_else_, any, some-has}
 use Rattle.calls.specs.Receive.{foreign, deciphered, uneven, kds, brought-key, brought, iv-value, iv-of}
 use Rattle.calls.specs.Receive.{bad-format}
-use Rattle.calls.specs.Build.{used, not-odd, wants-p, wants-idk1, wants-idk2, outgoing-key, outgoing-of}
-use Rattle.calls.specs.Build.{asked, kd-for, iv-for, ksm-text}
+use Rattle.calls.specs.Build.{used, not-odd, wants-p, wants-idk1, wants-idk2, wants-nos, outgoing-key, outgoing-of}
+use Rattle.calls.specs.Build.{working-for, asked, kd-for, iv-for, ksm-text}
 use Rattle.calls.specs.Calls.{receive, After, run}
 use Rattle.calls.specs.Claims.{Carries, Sized}
 use Rattle.calls.specs.Steps.{Partners, iv-asked, after-taken}
@@ -50,29 +51,41 @@ name-back false w = refl
 
 -- its KDs
 one-sent : (us : Text) (e : Entry) (q : Request) → eqb (q .count) 2 ≡ false
-    → kds (sent us e q) ≡ kd-for e (q .first) ∷ []
+    → kds (sent us e q) ≡ kd-for us e q (q .first) ∷ []
 unfolding sent
 one-sent us e q h = rw h
 
 two-sent : (us : Text) (e : Entry) (q : Request) → eqb (q .count) 2 ≡ true
-    → kds (sent us e q) ≡ kd-for e (q .first) ∷ kd-for e (q .second) ∷ []
+    → kds (sent us e q) ≡ kd-for us e q (q .first) ∷ kd-for us e q (q .second) ∷ []
 unfolding sent
 two-sent us e q h = rw h
 
-module _ (us : Text) (e f : Entry) (q : Request) (same-top : top-of (e .top) ≡ top-of (f .top)) where
-  key-back : (k : KeyRequest) → k .key < 2 ^ 64 → deciphered f (sent us e q) (kd-for e k) ≡ k .key
+-- our entry for them and their entry for us, under one top key
+pub record Met (us them : Text) (e f : Entry) : Type 0 where
+  pub theirs : bare (e .identity .bytes) ≡ them
+  pub ours : bare (f .identity .bytes) ≡ us
+  pub same-top : top-of (e .top) ≡ top-of (f .top)
+
+module _ (us them : Text) (e f : Entry) (q : Request) (met : Met us them e f) where
+  -- plain or notarized, they have our working key
+  same-key : working (wants-nos q) (bare (f .identity .bytes)) them (top-of (f .top)) (e .sending .next)
+      ≡ working-for us e q
+  same-key = λ j. working (wants-nos q) (met .ours j) (sym (met .theirs) j) (sym (met .same-top) j) (e .sending .next)
+
+  key-back : (k : KeyRequest) → k .key < 2 ^ 64 → deciphered them f (sent us e q) (kd-for us e q k) ≡ k .key
   unfolding sent
   key-back k h =
-      ap (λ (t : Top). unseal (working t (e .sending .next)) (seal (working (top-of (e .top)) (e .sending .next)) (k .key))) (sym same-top)
-      ∙ unseal-seal (working (top-of (e .top)) (e .sending .next)) (k .key) h
+      ap (λ (t : Top). unseal t (kd-for us e q k .key)) same-key
+      ∙ unseal-seal (working-for us e q) (k .key) h
 
-  data-key-back : (k : KeyRequest) → k .key < 2 ^ 64 → brought-key f (sent us e q) (kd-for e k) ≡ outgoing-key k
+  data-key-back : (k : KeyRequest) → k .key < 2 ^ 64
+      → brought-key them f (sent us e q) (kd-for us e q k) ≡ outgoing-key k
   data-key-back k h = λ j. record {
     key = key-back k h j;
     name = name-of (name-back (wants-idk1 k) (bare (k .name .bytes)) j);
   }
 
-  pub keys-back : q .first .key < 2 ^ 64 → q .second .key < 2 ^ 64 → brought f (sent us e q) ≡ outgoing-of q
+  pub keys-back : q .first .key < 2 ^ 64 → q .second .key < 2 ^ 64 → brought them f (sent us e q) ≡ outgoing-of q
   unfolding brought outgoing-of if_then_else_ sent
   keys-back x y =
       let a = data-key-back (q .first) x in
@@ -81,7 +94,7 @@ module _ (us : Text) (e f : Entry) (q : Request) (same-top : top-of (e .top) ≡
 
   -- ---- no foreign name, no uneven key
 
-  foreign-back : (k : KeyRequest) → e .top .name ≡ f .top .name → foreign f (kd-for e k) ≡ false
+  foreign-back : (k : KeyRequest) → e .top .name ≡ f .top .name → foreign f (kd-for us e q k) ≡ false
   unfolding foreign
   foreign-back k n =
       let s = ap not (same-refl (bare (f .top .name .bytes))) in
@@ -95,18 +108,18 @@ module _ (us : Text) (e f : Entry) (q : Request) (same-top : top-of (e .top) ≡
   no-foreign (two p r b c) n =
       ap (any (foreign f)) (two-sent us e q r) ∙ rw (foreign-back (q .first) n, foreign-back (q .second) n)
 
-  uneven-back : (k : KeyRequest) → k .key < 2 ^ 64 → uneven f (sent us e q) (kd-for e k) ≡ not-odd k
+  uneven-back : (k : KeyRequest) → k .key < 2 ^ 64 → uneven them f (sent us e q) (kd-for us e q k) ≡ not-odd k
   unfolding uneven not-odd
   uneven-back k h = ap (λ (x : ℕ). wants-p k && not (odd x)) (key-back k h)
 
   pub no-uneven : Keyed q → Sized q → any not-odd (used q) ≡ false
-      → any (uneven f (sent us e q)) (kds (sent us e q)) ≡ false
+      → any (uneven them f (sent us e q)) (kds (sent us e q)) ≡ false
   unfolding any used if_then_else_
   no-uneven (one p b) s h =
-      ap (any (uneven f (sent us e q))) (one-sent us e q (not-two q p))
+      ap (any (uneven them f (sent us e q))) (one-sent us e q (not-two q p))
       ∙ rw (uneven-back (q .first) (s .first)) (rw p at h)
   no-uneven (two p r b c) s h =
-      ap (any (uneven f (sent us e q))) (two-sent us e q r)
+      ap (any (uneven them f (sent us e q))) (two-sent us e q r)
       ∙ rw (uneven-back (q .first) (s .first), uneven-back (q .second) (s .second)) (rw (p, r) at h)
 
 -- ---- the IV and the date arrive
@@ -166,16 +179,16 @@ iv-arrives us e q s = iv-back q (s .iv) .value
 
 -- ---- what was built is good
 
-module _ (us : Text) (e f : Entry) (q : Request) (good : Fit e q) (sized : Sized q) where
-  pub sent-good : (text : Text) → top-of (e .top) ≡ top-of (f .top) → e .top .name ≡ f .top .name → f .receiving .expected ≤ e .sending .next
-      → sent us e q .mac ≡ mac (mac-key (keys-in (outgoing-of q))) (covered text) → Passes f text (sent us e q)
+module _ (us them : Text) (e f : Entry) (q : Request) (good : Fit e q) (sized : Sized q) where
+  pub sent-good : (text : Text) → Met us them e f → e .top .name ≡ f .top .name → f .receiving .expected ≤ e .sending .next
+      → sent us e q .mac ≡ mac (mac-key (keys-in (outgoing-of q))) (covered text) → Passes them f text (sent us e q)
   unfolding sent
   sent-good text t n x s =
       let d = formed q (good .formed) in
-      let k = keys-back us e f q t (sized .first) (sized .second) in
+      let k = keys-back us them e f q t (sized .first) (sized .second) in
       record {
-        names = no-foreign us e f q t (d .keys) n;
-        parity = no-uneven us e f q t (d .keys) sized (good .parity);
+        names = no-foreign us them e f q t (d .keys) n;
+        parity = no-uneven us them e f q t (d .keys) sized (good .parity);
         format = ap (λ (set : KeySet). bad-format set (sent us e q)) k ∙ format-back us e q d sized;
         sealed = s ∙ ap (λ (set : KeySet). mac (mac-key (keys-in set)) (covered text)) (sym k);
         fresh = x;
@@ -183,6 +196,14 @@ module _ (us : Text) (e f : Entry) (q : Request) (good : Fit e q) (sized : Sized
       }
 
 -- ---- the exchange
+
+-- partners know each other
+pub met : (t u : Table) (e f : Entry) → Partners t u e f → Met (bare (t .own)) (bare (u .own)) e f
+met t u e f p = record {
+  theirs = entry-held t (bare (u .own)) e (p .our-entry) .bare-identity;
+  ours = entry-held u (bare (t .own)) f (p .their-entry) .bare-identity;
+  same-top = p .same-top;
+}
 
 module _ (t u : Table) (e f : Entry) (q : Request) (room : ℕ) (p : Partners t u e f) (good : Fit e q)
     (sized : Sized q) (roomy : 256 ≤ room) where
@@ -197,7 +218,7 @@ module _ (t u : Table) (e f : Entry) (q : Request) (room : ℕ) (p : Partners t 
       let b = request-built t room them q e (p .ours) roomy (p .our-entry) good in
       let c = subst (λ (x : Text). Carries us x (ksm (sent us e q)) (ksm-text us e q)) (h .bare-identity)
       (sent-written us e n l q d) in
-      let g = sent-good us e f q good sized (ksm-text us e q) (p .same-top) (p .same-name) (p .in-step)
+      let g = sent-good us them e f q good sized (ksm-text us e q) (met t u e f p) (p .same-name) (p .in-step)
       (sent-sealed us e n l q d) in
       subst (λ (a : After). Taken-in them us f (sent us e q) (run u (receive room (a .outcome .reply)))) (sym b)
       (ksm-accepted u room (ksm-text us e q) us (sent us e q) f (p .theirs) roomy c (p .their-entry) g)

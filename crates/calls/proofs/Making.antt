@@ -12,7 +12,7 @@ use Rattle.partner.proofs.Claims.{claims}
 use Rattle.calls.specs.declared.KeyRequest.{KeyRequest}
 use Rattle.calls.specs.declared.Request.{Request}
 use Rattle.calls.specs.Words.{if_then_else_}
-use Rattle.calls.specs.Build.{outgoing-key, outgoing-of, asked, kd-for, iv-for}
+use Rattle.calls.specs.Build.{wants-nos, outgoing-key, outgoing-of, asked, kd-for, iv-for}
 use Rattle.calls.specs.Good.{only, first, second, Formed-key, Formed-request}
 use Rattle.calls.specs.Results as wanted
 use Rattle.calls.specs.Results.{Asked, Marked, Keeps-key, Keeps, Writes-key, Writes-iv, Writes-fields}
@@ -75,8 +75,8 @@ kept q h =
 
 -- ---- the message
 
-key-written : (e : Entry) (r : KeyRequest) → Writes-key e r (kd-for e r)
-key-written e r = record {
+key-written : (us : Text) (e : Entry) (q : Request) (r : KeyRequest) → Writes-key us e (wants-nos q) r (kd-for us e q r)
+key-written us e q r = record {
   key = refl;
   p = is-marked (r .flags % 2) (bit (r .flags % 2) (omega arith));
   idk1 = is-asked (bare (r .name .bytes)) (r .flags / 2 % 2) (bit (r .flags / 2 % 2) (omega arith));
@@ -97,12 +97,13 @@ iv-written q h =
     of i w = subst (λ (n : ℕ). Writes-iv q (outgoing-of q) n (iv-for q)) (sym i) w
 
 pub fields-written : (us : Text) (e : Entry) (q : Request) → Formed-request q
-    → Writes-fields e q (outgoing-of q) (sent us e q)
+    → Writes-fields us e q (outgoing-of q) (sent us e q)
 unfolding sent
 fields-written us e q h = record {
-  first = key-written e (q .first);
+  nos = is-marked (q .notarized) (bit (q .notarized) (h .notarized));
+  first = key-written us e q (q .first);
   one = λ p. rw (ne-eqb (q .count) 2 (λ i. omega arith));
-  two = λ p. (kd-for e (q .second), rw (eq-eqb (q .count) 2 p), key-written e (q .second));
+  two = λ p. (kd-for us e q (q .second), rw (eq-eqb (q .count) 2 p), key-written us e q (q .second));
   iv = iv-written q (h .iv);
   date = is-asked (q .date .digits) (q .dated) (bit (q .dated) (h .dated));
   count = refl;

@@ -63,61 +63,61 @@ unfolding foreign
 not-foreign e k h =
     let s = same-refl (bare (e .top .name .bytes)) in by-part (k .idk2) (λ p. rw (p, s)) (λ n p. rw (p, h n p, s))
 
-pub even-unmarked : (e : Entry) (m : Ksm) (k : Kd) → uneven e m k ≡ false → Even-only-unmarked e m k
+pub even-unmarked : (us : Text) (e : Entry) (m : Ksm) (k : Kd) → uneven us e m k ≡ false → Even-only-unmarked us e m k
 unfolding uneven
-even-unmarked e m k h p =
-    let i : not (odd (in-clear e m k)) ≡ false = rw p at h in
-    not-false (odd (in-clear e m k)) i
+even-unmarked us e m k h p =
+    let i : not (odd (in-clear us e m k)) ≡ false = rw p at h in
+    not-false (odd (in-clear us e m k)) i
 
-pub not-uneven : (e : Entry) (m : Ksm) (k : Kd) → Even-only-unmarked e m k → uneven e m k ≡ false
+pub not-uneven : (us : Text) (e : Entry) (m : Ksm) (k : Kd) → Even-only-unmarked us e m k → uneven us e m k ≡ false
 unfolding uneven
-not-uneven e m k h = by-test (k .p) (λ p. rw (p, h p)) (λ p. rw p)
+not-uneven us e m k h = by-test (k .p) (λ p. rw (p, h p)) (λ p. rw p)
 
 -- ---- the keys that it brings
 
-key-brought : (e : Entry) (m : Ksm) (k : Kd) → Brings-key e m k (brought-key e m k)
+key-brought : (us : Text) (e : Entry) (m : Ksm) (k : Kd) → Brings-key us e m k (brought-key us e m k)
 unfolding filled
-key-brought e m k = record {
+key-brought us e m k = record {
   key = refl;
   named = λ n p. rw p;
   nameless = λ p. rw p;
 }
 
-only-key : (e : Entry) (m : Ksm) (k : Kd) (d : DataKey) → Brings-key e m k d → d ≡ brought-key e m k
+only-key : (us : Text) (e : Entry) (m : Ksm) (k : Kd) (d : DataKey) → Brings-key us e m k d → d ≡ brought-key us e m k
 unfolding filled
-only-key e m k d h =
+only-key us e m k d h =
     let i : d .name .bytes ≡ filled (named (k .idk1)) =
     by-part (k .idk1) (λ p. rw p (h .nameless p)) (λ n p. rw p (h .named n p)) in
     λ j. record { key = h .key j; name = record { bytes = i j } }
 
-brought-one : (e : Entry) (m : Ksm) → m .second ≡ none → brought e m ≡ one-key (brought-key e m (m .kd))
+brought-one : (us : Text) (e : Entry) (m : Ksm) → m .second ≡ none → brought us e m ≡ one-key (brought-key us e m (m .kd))
 unfolding brought
-brought-one e m p = rw p
+brought-one us e m p = rw p
 
-brought-two : (e : Entry) (m : Ksm) (k : Kd) → m .second ≡ some k
-    → brought e m ≡ two-keys (brought-key e m (m .kd)) (brought-key e m k)
+brought-two : (us : Text) (e : Entry) (m : Ksm) (k : Kd) → m .second ≡ some k
+    → brought us e m ≡ two-keys (brought-key us e m (m .kd)) (brought-key us e m k)
 unfolding brought
-brought-two e m k p = rw p
+brought-two us e m k p = rw p
 
-pub brought-brings : (e : Entry) (m : Ksm) → Brings e m (brought e m)
-brought-brings e m = record {
+pub brought-brings : (us : Text) (e : Entry) (m : Ksm) → Brings us e m (brought us e m)
+brought-brings us e m = record {
   first =
-      let k = key-brought e m (m .kd) in
-      by-part (m .second) (λ p. rw (brought-one e m p) k) (λ l p. rw (brought-two e m l p) k);
-  one = λ p. rw (brought-one e m p) (refl, refl);
-  two = λ k p. rw (brought-two e m k p) (refl, key-brought e m k);
+      let k = key-brought us e m (m .kd) in
+      by-part (m .second) (λ p. rw (brought-one us e m p) k) (λ l p. rw (brought-two us e m l p) k);
+  one = λ p. rw (brought-one us e m p) (refl, refl);
+  two = λ k p. rw (brought-two us e m k p) (refl, key-brought us e m k);
 }
 
 -- and no other set is what it brings
-pub brings-only : (e : Entry) (m : Ksm) (set : KeySet) → Brings e m set → set ≡ brought e m
-brings-only e m set h =
-    let f = only-key e m (m .kd) (set .first) (h .first) in
+pub brings-only : (us : Text) (e : Entry) (m : Ksm) (set : KeySet) → Brings us e m set → set ≡ brought us e m
+brings-only us e m set h =
+    let f = only-key us e m (m .kd) (set .first) (h .first) in
     by-part (m .second)
-    (λ p. rw (brought-one e m p) (λ j. record { count = h .one p .0 j; first = f j; second = h .one p .1 j }))
-    (λ k p. rw (brought-two e m k p) (λ j. record {
+    (λ p. rw (brought-one us e m p) (λ j. record { count = h .one p .0 j; first = f j; second = h .one p .1 j }))
+    (λ k p. rw (brought-two us e m k p) (λ j. record {
       count = h .two k p .0 j;
       first = f j;
-      second = only-key e m k (set .second) (h .two k p .1) j;
+      second = only-key us e m k (set .second) (h .two k p .1) j;
     }))
 
 -- ---- IV and date

@@ -20,7 +20,7 @@ leaves-one-more : (expected count : ℕ) → expected ≤ count → count < limi
 unfolding by-class.receive accepted
 leaves-one-more expected count x y own e text m p q g =
     let t : In-turn (e .receiving .expected) (m .ctp) = record { fresh = omega (arith, x, p, q); not-last = omega (arith, y, q) } in
-    subst (Leaves (count + 1)) (sym (ksm-turn own e text m (passes e text m (record { rest = g; count = t }))))
+    subst (Leaves (count + 1)) (sym (ksm-turn own e text m (passes own e text m (record { rest = g; count = t }))))
     (record { accepted = refl; expects = claims .rises-by-one (m .ctp) (t .not-last) ∙ ap (λ (k : ℕ). k + 1) q })
 
 out-of-turn : (expected count : ℕ) → within 1 limit count ≡ true → (In-turn expected count → ⊥)

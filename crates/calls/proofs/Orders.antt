@@ -59,13 +59,13 @@ of-call a = a .outcome .answer
 
 -- ---- of one entry
 
-class-first : (own : Text) (e : Entry) (text : Text) (b : Body) → Walks of-turn (steps.receive own e text b) (by-class e text b)
+class-first : (own : Text) (e : Entry) (text : Text) (b : Body) → Walks of-turn (steps.receive own e text b) (by-class own e text b)
 unfolding steps.receive steps.receive-ksm steps.judged steps.receive-rsm steps.receive-esm
 class-first own e text (rsi m) = done refl
 class-first own e text (ksm m) =
     asks (any (foreign e) (kds m)) 4 _ _ refl refl
-    (asks (any (uneven e m) (kds m)) 4 _ _ refl refl
-    (asks (not (eqb (faults e (brought e m) text m) 0)) 4 _ _ refl refl (done refl)))
+    (asks (any (uneven own e m) (kds m)) 4 _ _ refl refl
+    (asks (not (eqb (faults e (brought own e m) text m) 0)) 4 _ _ refl refl (done refl)))
 class-first own e text (rsm m) =
     asks (not (is-waiting (e .sending))) 5 _ _ refl refl (asks (bad-mac (e .sending .outgoing) text (m .mac)) 4 _ _ refl refl (done refl))
 class-first own e text (esm m) = asks (not (is-waiting (e .sending))) 5 _ _ refl refl (done refl)
@@ -105,7 +105,7 @@ unfolding receiving
 text-first t text none = record { is = refl }
 text-first t text (some r) =
     asks (not (same (r .rcv) (bare (t .own)))) 2 _ _ refl refl
-    (about-first t (r .org) (λ e. steps.receive (bare (t .own)) e text (r .body)) (λ e. by-class e text (r .body))
+    (about-first t (r .org) (λ e. steps.receive (bare (t .own)) e text (r .body)) (λ e. by-class (bare (t .own)) e text (r .body))
     (λ e. class-first (bare (t .own)) e text (r .body)))
 
 load-first : (t : Table) (id name : Text) (top : Top)
@@ -160,7 +160,7 @@ inside-text t room text none = refl
 inside-text t room text (some r) = go (entry-of (r .org) t) (r .body)
   where
     go : (o : Option Entry) (b : Body)
-        → inside (answers (receive room text)) (at-entry o (λ e. by-class e text b)) ≡ true
+        → inside (answers (receive room text)) (at-entry o (λ e. by-class (bare (t .own)) e text b)) ≡ true
     go none b = refl
     go (some e) (rsi m) = refl
     go (some e) (ksm m) = refl

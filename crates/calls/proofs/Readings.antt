@@ -9,9 +9,9 @@ use borrow.Author.Tests.{lt-ltb}
 use Rattle.octets.specs.Text.{Text, within, run-char, is-name}
 use Rattle.octets.proofs.Comparing.{both as and-true}
 use Rattle.csm.specs.Format.{maybe-legal}
-use Rattle.csm.specs.Fields.{Kd, field, KD, IV, EDK, CTP, MAC, hex, hex-text, kd, iv, legal-name, has-P}
+use Rattle.csm.specs.Fields.{Kd, field, NOS, KD, IV, EDK, CTP, MAC, hex, hex-text, kd, iv, legal-name, has-P}
 use Rattle.csm.specs.Message.{Body, Ksm, Esm, ksm, esm, legal-body, print}
-use Rattle.csm.specs.Message.{counts-with-P, closed, esm-row, esm-values}
+use Rattle.csm.specs.Message.{flagged, counts-with-P, closed, esm-row, esm-values}
 use Rattle.csm.proofs.TextLaws.{within-true, true-within, all-weaker}
 use Rattle.csm.proofs.NumberLaws.{hex-run}
 use Rattle.csm.proofs.MessageLaws.{read-there}
@@ -72,7 +72,8 @@ pub record Ksm-legal (m : Ksm) : Type 0 where
 
 pub ksm-parts : (m : Ksm) → legal-body (ksm m) ≡ true → Ksm-legal m
 ksm-parts m h =
-    let a = and-true (kd .legal (m .kd)) _ h in
+    let n = and-true (maybe-legal (field NOS) (flagged (m .nos))) _ h in
+    let a = and-true (kd .legal (m .kd)) _ (n .1) in
     let b = and-true (maybe-legal (field KD) (m .second)) _ (a .1) in
     let c = and-true (maybe-legal (field IV) (m .iv)) _ (b .1) in
     let d = and-true (maybe-legal (field EDK) (m .edk)) _ (c .1) in

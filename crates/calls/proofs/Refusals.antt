@@ -60,7 +60,7 @@ module _ (t : Table) (room : ℕ) (text : Text) (l : legal t ≡ true) (e : 256 
   not-for-us n =
       is-refused t (receive room text) 2 refl
       (rw (l, le-ltb room 256 e, h, differs-same (r .rcv) (bare (t .own)) n)
-      (stays 2 (at-entry (entry-of (r .org) t) (λ e. by-class e text (r .body))) (not-0 2 refl)))
+      (stays 2 (at-entry (entry-of (r .org) t) (λ e. by-class (bare (t .own)) e text (r .body))) (not-0 2 refl)))
 
   no-sender : r .rcv ≡ bare (t .own) → entry-of (r .org) t ≡ none → run t (receive room text) ≡ refuse t 3
   no-sender p n =

@@ -17,6 +17,7 @@ use Rattle.csm.specs.Format.{maybe-legal}
 use Rattle.csm.specs.Fields.{KD, IV, EDK, field, kd, named, legal-name}
 use Rattle.csm.proofs.TextLaws.{or-right}
 use Rattle.csm.specs.Message.{legal-body}
+use Rattle.csm.proofs.MessageLaws.{flagged-legal}
 use Rattle.partner.specs.declared.Entry.{Entry}
 use Rattle.partner.specs.Entry.{blanks, filled, name-of, keys-in}
 use Rattle.partner.specs.Legal.{is-filled, is-named, keys-formed, legal}
@@ -26,7 +27,7 @@ use Rattle.partner.proofs.Claims.{claims}
 use Rattle.calls.specs.declared.KeyRequest.{KeyRequest}
 use Rattle.calls.specs.declared.Request.{Request}
 use Rattle.calls.specs.Words.{if_then_else_}
-use Rattle.calls.specs.Build.{used, bad-key, bad-keys, malformed, wants-idk1, wants-idk2}
+use Rattle.calls.specs.Build.{used, bad-key, bad-keys, malformed, wants-idk1, wants-idk2, wants-nos}
 use Rattle.calls.specs.Build.{outgoing-key, outgoing-of, asked, kd-for, iv-for, ksm-body}
 use Rattle.calls.proofs.Tests.{or-split, by-case, by-test}
 use Rattle.calls.proofs.Readings.{mac-legal, iv-legal, kd-legal}
@@ -61,15 +62,17 @@ pub record Tested (q : Request) : Type 0 where
   pub keys : bad-keys (used q) ≡ false
   pub kind : not (ltb (q .kind) 3) ≡ false
   pub dated : not (ltb (q .dated) 2) ≡ false
+  pub notarized : not (ltb (q .notarized) 2) ≡ false
   pub date : eqb (q .dated) 1 && not (is-date (q .date .digits)) ≡ false
 
 pub tested : (q : Request) → malformed q ≡ false → Tested q
 unfolding malformed
 tested q h =
     let a = or-split _ (eqb (q .dated) 1 && not (is-date (q .date .digits))) h in
-    let b = or-split _ (not (ltb (q .dated) 2)) (a .0) in
+    let n = or-split _ (not (ltb (q .notarized) 2)) (a .0) in
+    let b = or-split _ (not (ltb (q .dated) 2)) (n .0) in
     let c = or-split (bad-keys (used q)) (not (ltb (q .kind) 3)) (b .0) in
-    record { keys = c .0; kind = c .1; dated = b .1; date = a .1 }
+    record { keys = c .0; kind = c .1; dated = b .1; notarized = n .1; date = a .1 }
 
 pub formed : (q : Request) → malformed q ≡ false → Formed q
 formed q h = let t = tested q h in record { keys = keyed q (t .keys); date = t .date }
@@ -116,15 +119,16 @@ outgoing-formed q (two p r h i) =
 
 -- ---- the message
 
-for-legal : (e : Entry) (k : KeyRequest) → legal e ≡ true → bad-key k ≡ false → kd .legal (kd-for e k) ≡ true
-for-legal e k h b =
-    kd-legal (kd-for e k) (seal-lt _ (k .key)) (idk1-legal k b)
+for-legal : (us : Text) (e : Entry) (q : Request) (k : KeyRequest) → legal e ≡ true → bad-key k ≡ false
+    → kd .legal (kd-for us e q k) ≡ true
+for-legal us e q k h b =
+    kd-legal (kd-for us e q k) (seal-lt _ (k .key)) (idk1-legal k b)
     (idk2-legal e (wants-idk2 k) h)
 
-second-legal : (e : Entry) (q : Request) → legal e ≡ true → Keyed q
-    → maybe-legal (field KD) (asked (eqb (q .count) 2) (kd-for e (q .second))) ≡ true
-second-legal e q h (one p a) = rw (not-two q p)
-second-legal e q h (two p r a b) = rw r (for-legal e (q .second) h b)
+second-legal : (us : Text) (e : Entry) (q : Request) → legal e ≡ true → Keyed q
+    → maybe-legal (field KD) (asked (eqb (q .count) 2) (kd-for us e q (q .second))) ≡ true
+second-legal us e q h (one p a) = rw (not-two q p)
+second-legal us e q h (two p r a b) = rw r (for-legal us e q (q .second) h b)
 
 iv-for-legal : (q : Request) → maybe-legal (field IV) (iv-for q) ≡ true
 unfolding iv-for
@@ -147,13 +151,14 @@ first-fine : (q : Request) → Keyed q → bad-key (q .first) ≡ false
 first-fine q (one p h) = h
 first-fine q (two p r h i) = h
 
-pub ksm-legal : (e : Entry) (q : Request) (m : ℕ) → legal e ≡ true → Formed q → m < 2 ^ 32
-    → legal-body (ksm-body e q m) ≡ true
+pub ksm-legal : (us : Text) (e : Entry) (q : Request) (m : ℕ) → legal e ≡ true → Formed q → m < 2 ^ 32
+    → legal-body (ksm-body us e q m) ≡ true
 unfolding ksm-body
-ksm-legal e q m h f l =
+ksm-legal us e q m h f l =
     rw (
-      for-legal e (q .first) h (first-fine q (f .keys)),
-      second-legal e q h (f .keys),
+      flagged-legal (wants-nos q),
+      for-legal us e q (q .first) h (first-fine q (f .keys)),
+      second-legal us e q h (f .keys),
       iv-for-legal q,
       date-legal q f,
       rules e h .next-right,

@@ -46,54 +46,55 @@ use Rattle.calls.proofs.Accepting.{Passes, ksm-accepted, rsm-taken, esm
 use Rattle.calls.proofs.Orders.{done-passes}
 use Rattle.calls.proofs.Complaining.{received}
 use Rattle.calls.proofs.Claims.{claims}
-use Rattle.calls.proofs.Exchange.{accepts, keys-back, iv-arrives}
+use Rattle.calls.proofs.Exchange.{accepts, met, keys-back, iv-arrives}
 
 -- ---- a KSM
 
-pub passes : (e : Entry) (text : Text) (m : Ksm) → Good-ksm e text m → Passes e text m
-passes e text m g =
+pub passes : (us : Text) (e : Entry) (text : Text) (m : Ksm) → Good-ksm us e text m → Passes us e text m
+passes us e text m g =
     let r = g .rest in
-    let i = brings-only e m (r .set) (r .brings) in
+    let i = brings-only us e m (r .set) (r .brings) in
     record {
       names = of-all (by-class.foreign e) m (λ k p. not-foreign e k (r .names k p));
-      parity = of-all (by-class.uneven e m) m (λ k p. not-uneven e m k (r .parity k p));
+      parity = of-all (by-class.uneven us e m) m (λ k p. not-uneven us e m k (r .parity k p));
       format = subst (λ (s : KeySet). by-class.bad-format s m ≡ false) i (formed-ksm (r .set) m (r .format));
       sealed = subst (λ (s : KeySet). Sealed s text (m .mac)) i (r .sealed);
       fresh = g .count .fresh;
       not-last = g .count .not-last;
     }
 
-pub passed : (e : Entry) (text : Text) (m : Ksm) → Passes e text m → Good-ksm e text m
-passed e text m g = record {
+pub passed : (us : Text) (e : Entry) (text : Text) (m : Ksm) → Passes us e text m → Good-ksm us e text m
+passed us e text m g = record {
   rest = record {
     names = λ k p. ours e k (of-each (by-class.foreign e) m (g .names) k p);
-    parity = λ k p. even-unmarked e m k (of-each (by-class.uneven e m) m (g .parity) k p);
-    set = brought e m;
-    brings = brought-brings e m;
-    format = ksm-formed (brought e m) m (g .format);
+    parity = λ k p. even-unmarked us e m k (of-each (by-class.uneven us e m) m (g .parity) k p);
+    set = brought us e m;
+    brings = brought-brings us e m;
+    format = ksm-formed (brought us e m) m (g .format);
     sealed = g .sealed;
   };
   count = record { fresh = g .fresh; not-last = g .not-last };
 }
 
 pub good-ksm : (t : Table) (room : ℕ) (text id : Text) (m : Ksm) (e : Entry) → Comes t room id e
-    → Carries id (bare (t .own)) (ksm m) text → Good-ksm e text m
+    → Carries id (bare (t .own)) (ksm m) text → Good-ksm (bare (t .own)) e text m
     → Accepts (bare (t .own)) id e m (run t (receive room text))
 unfolding accepted
 good-ksm t room text id m e c k g =
-    let p = passes e text m g in
+    let us = bare (t .own) in
+    let p = passes us e text m g in
     let x = ksm-accepted t room text id m e (c .lawful) (c .roomy) k (c .known) p in
     record {
       answered = x .answered;
-      later = with-receiving e (accepted (m .ctp) (brought e m));
+      later = with-receiving e (accepted (m .ctp) (brought us e m));
       entry = x .entry;
       expected = risen-below (m .ctp) (p .not-last);
-      incoming = brought-brings e m;
+      incoming = brought-brings us e m;
       key-stays = record { identity = refl; top = refl };
       sending-stays = refl;
-      iv = iv-of (brought e m) m;
+      iv = iv-of (brought us e m) m;
       returned = x .returned;
-      value = iv-returned (brought e m) m (ksm-formed (brought e m) m (p .format));
+      value = iv-returned (brought us e m) m (ksm-formed (brought us e m) m (p .format));
       message = x .message;
       written = x .written;
       sealed = x .sealed;
@@ -101,15 +102,16 @@ good-ksm t room text id m e c k g =
 
 pub accepted-good : (t : Table) (room : ℕ) (text id : Text) (m : Ksm) (e : Entry)
     → Carries id (bare (t .own)) (ksm m) text → entry-of id t ≡ some e
-    → run t (receive room text) .outcome .answer ≡ 0 → Good-ksm e text m
+    → run t (receive room text) .outcome .answer ≡ 0 → Good-ksm (bare (t .own)) e text m
 unfolding faults bad-mac bad-count
 accepted-good t room text id m e c k z =
     let p = rw (c, k) at (done-passes t (receive room text) z) in
+    let us = bare (t .own) in
     let f = p .1 .1 .1 in
-    let h = none-holds (bad-format (brought e m) m) (bad-mac (brought e m) text (m .mac))
+    let h = none-holds (bad-format (brought us e m) m) (bad-mac (brought us e m) text (m .mac))
     (bad-count (e .receiving .expected) (m .ctp)) (not-false _ (f .1 .1 .0)) in
     let i = or-split _ _ (h .2) in
-    passed e text m (record {
+    passed us e text m (record {
       names = f .0;
       parity = f .1 .0;
       format = h .0;
@@ -130,7 +132,7 @@ waits-not e h = ne-eqb (e .sending .phase) waiting h
 
 -- a message that is answered 5
 in-vain : (t : Table) (room : ℕ) (text id : Text) (b : Body) (e : Entry) → Comes t room id e
-    → Carries id (bare (t .own)) b text → first (order-of e text b) ≡ 5 → run t (receive room text) .outcome ≡ refusal 5
+    → Carries id (bare (t .own)) b text → first (order-of (bare (t .own)) e text b) ≡ 5 → run t (receive room text) .outcome ≡ refusal 5
 in-vain t room text id b e g c p =
     ap (λ (a : After). a .outcome) (is-refused t (receive room text) 5 refl
     (rw (g .lawful, le-ltb room 256 (g .roomy), c, same-refl (bare (t .own)), g .known) p))
@@ -317,7 +319,7 @@ module _ (t u : Table) (e f : Entry) (q : Request) (room : ℕ) (p : Partners t 
       let set = outgoing-of q in
       let x = fit e q g in
       let a = accepts t u e f q room p x sized roomy in
-      let k = keys-back (bare (t .own)) e f q (p .same-top) (sized .first) (sized .second) in
+      let k = keys-back (bare (t .own)) them e f q (met t u e f p) (sized .first) (sized .second) in
       rsm-taken (after-built t u q room .table) room (after-taken t u q room .outcome .reply) them (a .message)
       (with-sending e (issued (e .sending) set)) (claims .stays-legal t (about them (build-ksm room q)) (p .ours)) roomy
       (subst (λ (own : Text). Carries them (bare own) (rsm (a .message)) (after-taken t u q room .outcome .reply))
@@ -333,7 +335,7 @@ module _ (t u : Table) (e f : Entry) (q : Request) (room : ℕ) (p : Partners t 
       let set = outgoing-of q in
       let x = fit e q g in
       let a = accepts t u e f q room p x sized roomy in
-      let k = keys-back us e f q (p .same-top) (sized .first) (sized .second) in
+      let k = keys-back us (bare (u .own)) e f q (met t u e f p) (sized .first) (sized .second) in
       record {
         built = builds t room (bare (u .own)) q e (record { lawful = p .ours; roomy = roomy; known = p .our-entry }) g
             .answered;
@@ -342,7 +344,7 @@ module _ (t u : Table) (e f : Entry) (q : Request) (room : ℕ) (p : Partners t 
             ∙ (λ j. keys (iv-arrives us e q sized j) (m .edk));
         confirmation = confirmed-so .0;
         ours = with-sending e (settled (issued (e .sending) set));
-        theirs = with-receiving f (accepted (m .ctp) (brought f m));
+        theirs = with-receiving f (accepted (m .ctp) (brought (bare (u .own)) f m));
         our-entry = confirmed-so .1;
         their-entry = a .entry;
         phase = refl;

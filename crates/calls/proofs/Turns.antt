@@ -118,15 +118,15 @@ svr-legal w s h =
     ap (svr .legal) (sym (some-inj i)) ∙ and-true (svr .legal (svr .guess w)) _ p .0)
     (λ p. absurd (none-some s (rw p at h)))
 
-brought-formed : (e : Entry) (m : Ksm) → legal-body (ksm m) ≡ true → keys-formed (brought e m) ≡ true
+brought-formed : (us : Text) (e : Entry) (m : Ksm) → legal-body (ksm m) ≡ true → keys-formed (brought us e m) ≡ true
 unfolding brought
-brought-formed e m h =
+brought-formed us e m h =
     let p = ksm-parts m h in
-    by-part (m .second) (λ q. rw q (claims .one-key-is-formed (brought-key e m (m .kd)) (named (m .kd) (p .first))))
-    (λ k q. rw q (claims .two-keys-are-formed (brought-key e m (m .kd)) (brought-key e m k) (named (m .kd) (p .first))
+    by-part (m .second) (λ q. rw q (claims .one-key-is-formed (brought-key us e m (m .kd)) (named (m .kd) (p .first))))
+    (λ k q. rw q (claims .two-keys-are-formed (brought-key us e m (m .kd)) (brought-key us e m k) (named (m .kd) (p .first))
     (named k (rw q at (p .second)))))
   where
-    named : (k : Kd) → kd .legal k ≡ true → is-named (brought-key e m k) ≡ true
+    named : (k : Kd) → kd .legal k ≡ true → is-named (brought-key us e m k) ≡ true
     named k l = named-is-named _ (k .idk1) (kd-name k l)
 
 -- the letters of F, M and P that hold, with counts where P does
@@ -169,7 +169,7 @@ pub data Step (us : Text) (e : Entry) (text : Text) : Body → Turn → Type 0 w
       → Step us e text b (error us e l c)
   serves : (m : Rsi) (o : Told) → Step us e text (rsi m) (done e [] o)
   accepts : (m : Ksm) (o : Told) → e .receiving .expected ≤ m .ctp → m .ctp < limit → Step us e text (ksm m)
-      (done (with-receiving e (accepted (m .ctp) (brought e m))) (rsm-text us e (brought e m)) o)
+      (done (with-receiving e (accepted (m .ctp) (brought us e m))) (rsm-text us e (brought us e m)) o)
   confirms : (m : Rsm) (o : Told) → e .sending .phase ≡ waiting
       → m .mac ≡ mac (mac-key (keys-in (e .sending .outgoing))) (covered text)
       → Step us e text (rsm m) (done (with-sending e (settled (e .sending))) [] o)
@@ -181,7 +181,7 @@ pub receive-step : (us : Text) (e : Entry) (text : Text) → legal e ≡ true �
 unfolding receive receive-ksm judged faults bad-count receive-rsm bad-mac receive-esm
 receive-step us e text lawful (rsi m) h = serves m _
 receive-step us e text lawful (ksm m) h =
-    let set = brought e m in
+    let set = brought us e m in
     let c = ksm-parts m h .count in
     by-case (Step us e text (ksm m)) _ _ _ (λ q. errs _ I none (eqb-false I 0 refl) (esm-legal I refl refl)) λ q.
     by-case (Step us e text (ksm m)) _ _ _ (λ q. errs _ K none (eqb-false K 0 refl) (esm-legal K refl refl)) λ q.
@@ -208,8 +208,8 @@ module _ (us : Text) (e : Entry) (named : is-name us ≡ true) (lawful : legal e
   step-does (errs b l c k i) h = complains l c k i
   step-does (serves m o) h = does _ _ _ stays refl
   step-does (accepts m o v u) h =
-      let x = rsm-written us e named lawful (brought e m) in
-      does _ _ _ (takes (m .ctp) (brought e m) (brought-formed e m h)
+      let x = rsm-written us e named lawful (brought us e m) in
+      does _ _ _ (takes (m .ctp) (brought us e m) (brought-formed us e m h)
       (within-true 1 limit (m .ctp) (ksm-parts m h .count) .0) u v) (x .0, x .1)
   step-does (confirms m o w s) h = does _ _ _ (settles w) refl
   step-does (breaks m o w) h =

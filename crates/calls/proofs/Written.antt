@@ -18,7 +18,7 @@ use Rattle.partner.proofs.Naming.{filled-name}
 use Rattle.partner.proofs.Keeping.{rules}
 use Rattle.calls.specs.declared.Request.{Request}
 use Rattle.calls.specs.Receive.{to-partner, rsm-body, rsm-text}
-use Rattle.calls.specs.Build.{outgoing-of, asked, kd-for, iv-for, ksm-body, ksm-text}
+use Rattle.calls.specs.Build.{wants-nos, outgoing-of, asked, kd-for, iv-for, ksm-body, ksm-text}
 use Rattle.calls.specs.Claims.{Carries}
 use Rattle.calls.proofs.Readings.{carried, rsm-legal}
 use Rattle.calls.proofs.Requests.{Formed, ksm-legal}
@@ -26,12 +26,13 @@ use Rattle.calls.proofs.Requests.{Formed, ksm-legal}
 -- the message of a request with its MAC
 unfoldable pub sent : Text → Entry → Request → Ksm
 sent us e q = record {
-  kd = kd-for e (q .first);
-  second = asked (eqb (q .count) 2) (kd-for e (q .second));
+  nos = wants-nos q;
+  kd = kd-for us e q (q .first);
+  second = asked (eqb (q .count) 2) (kd-for us e q (q .second));
   iv = iv-for q;
   edk = asked (eqb (q .dated) 1) (q .date .digits);
   ctp = e .sending .next;
-  mac = mac (mac-key (keys-in (outgoing-of q))) (covered-part (to-partner us e (ksm-body e q 0)));
+  mac = mac (mac-key (keys-in (outgoing-of q))) (covered-part (to-partner us e (ksm-body us e q 0)));
 }
 
 module _ (us : Text) (e : Entry) (named : is-name us ≡ true) (lawful : legal e ≡ true) where
@@ -57,7 +58,7 @@ module _ (us : Text) (e : Entry) (named : is-name us ≡ true) (lawful : legal e
     pub sent-written : Carries us (bare (e .identity .bytes)) (ksm (sent us e q)) (ksm-text us e q)
     unfolding ksm-text ksm-body sent
     sent-written =
-        to-them (ksm (sent us e q)) refl (ksm-legal e q (sent us e q .mac) lawful formed (mac-lt _ _))
+        to-them (ksm (sent us e q)) refl (ksm-legal us e q (sent us e q .mac) lawful formed (mac-lt _ _))
 
     pub sent-sealed : sent us e q .mac ≡ mac (mac-key (keys-in (outgoing-of q))) (covered (ksm-text us e q))
     unfolding sent ksm-body covered-part

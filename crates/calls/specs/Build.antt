@@ -7,7 +7,9 @@ use lib.Dec.{eqb, ltb}
 use Rattle.octets.specs.Text.{Text, ascii}
 use Rattle.octets.specs.Part.{bare}
 use Rattle.keying.specs.Parity.{odd}
-use Rattle.keying.specs.Keys.{working, seal}
+use Rattle.keying.specs.declared.Top.{Top}
+use Rattle.keying.specs.Keys.{seal}
+use Rattle.keying.specs.Working.{working}
 use Rattle.keying.specs.Mac.{mac-key, mac}
 use Rattle.keying.specs.Iv.{conceal}
 use Rattle.keying.specs.Date.{is-date}
@@ -39,6 +41,10 @@ wants-idk1 k = eqb (k .flags / 2 % 2) 1
 abbrev pub wants-idk2 : KeyRequest → Bool
 wants-idk2 k = eqb (k .flags / 4 % 2) 1
 
+-- whether its keys are to be notarized
+abbrev pub wants-nos : Request → Bool
+wants-nos q = eqb (q .notarized) 1
+
 -- the keys; of more than two none is used
 unfoldable pub used : Request → List KeyRequest
 used q =
@@ -62,7 +68,7 @@ bad-keys (k ∷ l ∷ more) = eqb (k .key) (l .key) || bad-key k || bad-key l
 -- 12: no key, more than two, two equal keys, bad name, date or flag
 unfoldable pub malformed : Request → Bool
 malformed q =
-    bad-keys (used q) || not (ltb (q .kind) 3) || not (ltb (q .dated) 2)
+    bad-keys (used q) || not (ltb (q .kind) 3) || not (ltb (q .dated) 2) || not (ltb (q .notarized) 2)
     || eqb (q .dated) 1 && not (is-date (q .date .digits))
 
 -- ---- the message
@@ -84,11 +90,15 @@ outgoing-of q =
 abbrev pub asked : {A : Type 0} → Bool → A → Option A
 asked b a = cond b (some a) none
 
--- a key as it is written: under the top key offset by the next send count; P, IDK1 and IDK2 (always the entry's key
--- name) where asked for
-abbrev pub kd-for : Entry → KeyRequest → Kd
-kd-for e k = record {
-  key = seal (working (top-of (e .top)) (e .sending .next)) (k .key);
+-- the key that its keys go under: the top key offset by the next send count or, notarized, the notarizing key of us as
+-- originator, of the partner as receiver and of that count
+abbrev pub working-for : Text → Entry → Request → Top
+working-for own e q = working (wants-nos q) own (bare (e .identity .bytes)) (top-of (e .top)) (e .sending .next)
+
+-- a key as it is written: under that key; P, IDK1 and IDK2 (always the entry's key name) where asked for
+abbrev pub kd-for : Text → Entry → Request → KeyRequest → Kd
+kd-for own e q k = record {
+  key = seal (working-for own e q) (k .key);
   p = wants-p k;
   idk1 = asked (wants-idk1 k) (bare (k .name .bytes));
   idk2 = asked (wants-idk2 k) (bare (e .top .name .bytes));
@@ -101,10 +111,11 @@ iv-for q =
     if eqb (q .kind) 2 then some (ascii "E" ++ hex-text 16 (conceal (keys-in (outgoing-of q)) (q .iv))) else none
 
 -- the message with the next send count and a MAC
-unfoldable pub ksm-body : Entry → Request → ℕ → Body
-ksm-body e q m = ksm (record {
-  kd = kd-for e (q .first);
-  second = asked (eqb (q .count) 2) (kd-for e (q .second));
+unfoldable pub ksm-body : Text → Entry → Request → ℕ → Body
+ksm-body own e q m = ksm (record {
+  nos = wants-nos q;
+  kd = kd-for own e q (q .first);
+  second = asked (eqb (q .count) 2) (kd-for own e q (q .second));
   iv = iv-for q;
   edk = asked (eqb (q .dated) 1) (q .date .digits);
   ctp = e .sending .next;
@@ -115,7 +126,7 @@ ksm-body e q m = ksm (record {
 unfoldable pub ksm-text : Text → Entry → Request → Text
 ksm-text own e q =
     print (to-partner own e
-    (ksm-body e q (mac (mac-key (keys-in (outgoing-of q))) (covered-part (to-partner own e (ksm-body e q 0))))))
+    (ksm-body own e q (mac (mac-key (keys-in (outgoing-of q))) (covered-part (to-partner own e (ksm-body own e q 0))))))
 
 -- ---- the steps
 

@@ -9,7 +9,8 @@ use Prim.Native.Char.{code}
 use Rattle.octets.specs.Text.{Text, is-run, is-name}
 use Rattle.octets.specs.Part.{bare}
 use Rattle.keying.specs.Parity.{odd}
-use Rattle.keying.specs.Keys.{working, unseal}
+use Rattle.keying.specs.Keys.{unseal}
+use Rattle.keying.specs.Working.{working}
 use Rattle.keying.specs.Mac.{mac-key, mac}
 use Rattle.keying.specs.Iv.{reveal}
 use Rattle.keying.specs.Date.{is-date}
@@ -37,25 +38,26 @@ pub data Kd-of (m : Ksm) : Kd → Type 0 where
 abbrev pub Ours : Entry → Kd → Type 0
 Ours e k = (n : Text) → k .idk2 ≡ some n → n ≡ bare (e .top .name .bytes)
 
--- a KD's key deciphered: under the top key offset by the message's CTP
-abbrev pub in-clear : Entry → Ksm → Kd → ℕ
-in-clear e m k = unseal (working (top-of (e .top)) (m .ctp)) (k .key)
+-- a KD's key deciphered, where we are the receiver: under the top key offset by the message's CTP or, with NOS, under the
+-- notarizing key
+abbrev pub in-clear : Text → Entry → Ksm → Kd → ℕ
+in-clear us e m k = unseal (working (m .nos) (bare (e .identity .bytes)) us (top-of (e .top)) (m .ctp)) (k .key)
 
 -- a KD marked P is of odd parity once deciphered
-abbrev pub Even-only-unmarked : Entry → Ksm → Kd → Type 0
-Even-only-unmarked e m k = k .p ≡ true → odd (in-clear e m k) ≡ true
+abbrev pub Even-only-unmarked : Text → Entry → Ksm → Kd → Type 0
+Even-only-unmarked us e m k = k .p ≡ true → odd (in-clear us e m k) ≡ true
 
 -- a data key that a KD brings, named by its IDK1 or not at all
-pub record Brings-key (e : Entry) (m : Ksm) (k : Kd) (d : DataKey) : Type 0 where
-  pub key : d .key ≡ in-clear e m k
+pub record Brings-key (us : Text) (e : Entry) (m : Ksm) (k : Kd) (d : DataKey) : Type 0 where
+  pub key : d .key ≡ in-clear us e m k
   pub named : (n : Text) → k .idk1 ≡ some n → d .name .bytes ≡ filled n
   pub nameless : k .idk1 ≡ none → d .name .bytes ≡ blanks
 
 -- the data keys that a KSM brings, in its order; an unused place is zero
-pub record Brings (e : Entry) (m : Ksm) (set : KeySet) : Type 0 where
-  pub first : Brings-key e m (m .kd) (set .first)
+pub record Brings (us : Text) (e : Entry) (m : Ksm) (set : KeySet) : Type 0 where
+  pub first : Brings-key us e m (m .kd) (set .first)
   pub one : m .second ≡ none → (set .count ≡ 1) × (set .second ≡ unused)
-  pub two : (k : Kd) → m .second ≡ some k → (set .count ≡ 2) × Brings-key e m k (set .second)
+  pub two : (k : Kd) → m .second ≡ some k → (set .count ≡ 2) × Brings-key us e m k (set .second)
 
 -- an IV and its value: P and the value, or E and the value enciphered, either of 16 hex digits
 pub data Iv (set : KeySet) : Text → ℕ → Type 0 where
@@ -78,17 +80,17 @@ pub record In-turn (expected count : ℕ) : Type 0 where
   pub not-last : count < 99_999_999
 
 -- names, parity, IV and date and MAC as they must be
-pub record Good-but-its-count (e : Entry) (text : Text) (m : Ksm) : Type 0 where
+pub record Good-but-its-count (us : Text) (e : Entry) (text : Text) (m : Ksm) : Type 0 where
   pub names : (k : Kd) → Kd-of m k → Ours e k
-  pub parity : (k : Kd) → Kd-of m k → Even-only-unmarked e m k
+  pub parity : (k : Kd) → Kd-of m k → Even-only-unmarked us e m k
   pub set : KeySet
-  pub brings : Brings e m set
+  pub brings : Brings us e m set
   pub format : Formed-ksm set m
   pub sealed : Sealed set text (m .mac)
 
 -- and the count
-pub record Good-ksm (e : Entry) (text : Text) (m : Ksm) : Type 0 where
-  pub rest : Good-but-its-count e text m
+pub record Good-ksm (us : Text) (e : Entry) (text : Text) (m : Ksm) : Type 0 where
+  pub rest : Good-but-its-count us e text m
   pub count : In-turn (e .receiving .expected) (m .ctp)
 
 -- ---- a request for a key message
@@ -116,6 +118,7 @@ pub record Formed-request (q : Request) : Type 0 where
   pub iv : q .kind ≤ 2
   pub dated : q .dated ≤ 1
   pub date : q .dated ≡ 1 → is-date (q .date .digits) ≡ true
+  pub notarized : q .notarized ≤ 1
 
 -- nothing waits, the count is not the last, parity and form as they must be
 pub record Good-request (e : Entry) (q : Request) : Type 0 where

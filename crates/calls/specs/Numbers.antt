@@ -18,7 +18,7 @@ use Rattle.calls.specs.Good.{Good-but-its-count}
 abbrev pub Comes-to : ℕ → ℕ → (Turn → Type 0) → Type 0
 Comes-to expected count result =
     (own : Text) (e : Entry) (text : Text) (m : Ksm) → e .receiving .expected ≡ expected → m .ctp ≡ count
-    → Good-but-its-count e text m → result (receive-ksm own e text m)
+    → Good-but-its-count own e text m → result (receive-ksm own e text m)
 
 -- it is accepted and leaves this expected count
 pub record Leaves (expected : ℕ) (t : Turn) : Type 0 where

@@ -26,14 +26,14 @@ use Rattle.calls.specs.Calls.{short, no-room, bad-identity, run}
 -- ---- of one entry
 
 -- a KSM: I, K, then F, M and P together; an RSM; an ESM; an option: O
-abbrev pub by-class : Entry → Text → Body → Order
-by-class e text (rsi m) = []
-by-class e text (ksm m) =
-    (any (foreign e) (kds m), 4) ∷ (any (uneven e m) (kds m), 4)
-    ∷ (not (eqb (faults e (brought e m) text m) 0), 4) ∷ []
-by-class e text (rsm m) = (not (is-waiting (e .sending)), 5) ∷ (bad-mac (e .sending .outgoing) text (m .mac), 4) ∷ []
-by-class e text (esm m) = (not (is-waiting (e .sending)), 5) ∷ []
-by-class e text (option c w) = (true, 4) ∷ []
+abbrev pub by-class : Text → Entry → Text → Body → Order
+by-class own e text (rsi m) = []
+by-class own e text (ksm m) =
+    (any (foreign e) (kds m), 4) ∷ (any (uneven own e m) (kds m), 4)
+    ∷ (not (eqb (faults e (brought own e m) text m) 0), 4) ∷ []
+by-class own e text (rsm m) = (not (is-waiting (e .sending)), 5) ∷ (bad-mac (e .sending .outgoing) text (m .mac), 4) ∷ []
+by-class own e text (esm m) = (not (is-waiting (e .sending)), 5) ∷ []
+by-class own e text (option c w) = (true, 4) ∷ []
 
 -- an act
 abbrev pub by-act : Act → Entry → Order
@@ -55,7 +55,7 @@ at-entry (some e) rest = rest e
 abbrev pub of-text : Table → Text → Option Reading → Order
 of-text t text none = (true, 1) ∷ []
 of-text t text (some r) =
-    (not (same (r .rcv) (bare (t .own))), 2) ∷ at-entry (entry-of (r .org) t) (λ e. by-class e text (r .body))
+    (not (same (r .rcv) (bare (t .own))), 2) ∷ at-entry (entry-of (r .org) t) (λ e. by-class (bare (t .own)) e text (r .body))
 
 abbrev pub in-order : Table → Call → Order
 in-order t (receive room text) = (short room, 6) ∷ of-text t text (read text)

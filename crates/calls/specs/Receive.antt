@@ -8,7 +8,8 @@ use lib.Dec.{eqb, ltb}
 use Rattle.octets.specs.Text.{Text, same, is-run}
 use Rattle.octets.specs.Part.{bare, found}
 use Rattle.keying.specs.Parity.{odd}
-use Rattle.keying.specs.Keys.{working, unseal}
+use Rattle.keying.specs.Keys.{unseal}
+use Rattle.keying.specs.Working.{working}
 use Rattle.keying.specs.Mac.{mac-key, mac}
 use Rattle.keying.specs.Iv.{reveal}
 use Rattle.keying.specs.Date.{is-date}
@@ -61,27 +62,28 @@ name-in-force e k = elim (k .idk2) [ none ↦ bare (e .top .name .bytes) | some 
 unfoldable pub foreign : Entry → Kd → Bool
 foreign e k = not (same (name-in-force e k) (bare (e .top .name .bytes)))
 
--- a KD's key deciphered under the top key offset by the message's CTP
-abbrev pub deciphered : Entry → Ksm → Kd → ℕ
-deciphered e m k = unseal (working (top-of (e .top)) (m .ctp)) (k .key)
+-- a KD's key deciphered under the top key offset by the message's CTP or, with NOS, under the notarizing key of the
+-- partner as originator, of us as receiver and of the CTP
+abbrev pub deciphered : Text → Entry → Ksm → Kd → ℕ
+deciphered own e m k = unseal (working (m .nos) (bare (e .identity .bytes)) own (top-of (e .top)) (m .ctp)) (k .key)
 
 -- K: a KD marked P and not of odd parity once deciphered
-unfoldable pub uneven : Entry → Ksm → Kd → Bool
-uneven e m k = k .p && not (odd (deciphered e m k))
+unfoldable pub uneven : Text → Entry → Ksm → Kd → Bool
+uneven own e m k = k .p && not (odd (deciphered own e m k))
 
 -- its KDs
 abbrev pub kds : Ksm → List Kd
 kds m = m .kd ∷ elim (m .second) [ none ↦ [] | some k ↦ k ∷ [] ]
 
 -- the keys and names that it brings
-abbrev pub brought-key : Entry → Ksm → Kd → DataKey
-brought-key e m k = record { key = deciphered e m k; name = name-of (named (k .idk1)) }
+abbrev pub brought-key : Text → Entry → Ksm → Kd → DataKey
+brought-key own e m k = record { key = deciphered own e m k; name = name-of (named (k .idk1)) }
 
-unfoldable pub brought : Entry → Ksm → KeySet
-brought e m =
+unfoldable pub brought : Text → Entry → Ksm → KeySet
+brought own e m =
     elim (m .second) [
-      | none ↦ one-key (brought-key e m (m .kd))
-      | some k ↦ two-keys (brought-key e m (m .kd)) (brought-key e m k)
+      | none ↦ one-key (brought-key own e m (m .kd))
+      | some k ↦ two-keys (brought-key own e m (m .kd)) (brought-key own e m k)
     ]
 
 -- the value of an IV: after P as it stands, after E deciphered; none where it is not E or P and 16 hex digits
@@ -133,8 +135,8 @@ judged own e text m set =
 unfoldable pub receive-ksm : Text → Entry → Text → Ksm → Turn
 receive-ksm own e text m =
     if any (foreign e) (kds m) then error own e I none else
-    if any (uneven e m) (kds m) then error own e K none else
-    judged own e text m (brought e m)
+    if any (uneven own e m) (kds m) then error own e K none else
+    judged own e text m (brought own e m)
 
 -- ---- an RSM: not waiting, 5; MAC differs under the outgoing keys, 4 with M, still waiting; otherwise 0, phase 2
 

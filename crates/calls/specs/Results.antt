@@ -6,7 +6,8 @@ use mathlib.Core.Option.{Option, none, some}
 use Prim.Native.Nat.{ℕ, _+_, _/_, _%_, max}
 use Rattle.octets.specs.Text.{Text, ascii}
 use Rattle.octets.specs.Part.{bare}
-use Rattle.keying.specs.Keys.{working, seal}
+use Rattle.keying.specs.Keys.{seal}
+use Rattle.keying.specs.Working.{working}
 use Rattle.keying.specs.Iv.{conceal}
 use Rattle.csm.specs.Fields.{Kd, hex-text, erf}
 use Rattle.csm.specs.Message.{Ksm, Rsm, ksm, rsm, esm}
@@ -65,7 +66,7 @@ pub record Accepts (us id : Text) (e : Entry) (m : Ksm) (a : After) : Type 0 whe
   pub later : Entry
   pub entry : entry-of id (a .table) ≡ some later
   pub expected : later .receiving .expected ≡ m .ctp + 1
-  pub incoming : Brings e m (later .receiving .incoming)
+  pub incoming : Brings us e m (later .receiving .incoming)
   pub key-stays : Key-stays e later
   pub sending-stays : later .sending ≡ e .sending
   pub iv : Option ℕ
@@ -131,10 +132,10 @@ pub record Keeps (q : Request) (set : KeySet) : Type 0 where
   pub one : q .count ≡ 1 → set .second ≡ unused
   pub two : q .count ≡ 2 → Keeps-key (q .second) (set .second)
 
--- a KD: the key under the top key offset by the next send count; P, IDK1 and IDK2 (always the entry's key name) as the
--- flags say
-pub record Writes-key (e : Entry) (r : KeyRequest) (k : Kd) : Type 0 where
-  pub key : k .key ≡ seal (working (top-of (e .top)) (e .sending .next)) (r .key)
+-- a KD, notarized or not, where we are the originator: the key under the top key offset by the next send count or under
+-- the notarizing key; P, IDK1 and IDK2 (always the entry's key name) as the flags say
+pub record Writes-key (us : Text) (e : Entry) (nos : Bool) (r : KeyRequest) (k : Kd) : Type 0 where
+  pub key : k .key ≡ seal (working nos us (bare (e .identity .bytes)) (top-of (e .top)) (e .sending .next)) (r .key)
   pub p : Marked (r .flags % 2) (k .p)
   pub idk1 : Asked (bare (r .name .bytes)) (r .flags / 2 % 2) (k .idk1)
   pub idk2 : Asked (bare (e .top .name .bytes)) (r .flags / 4 % 2) (k .idk2)
@@ -146,10 +147,11 @@ pub data Writes-iv (q : Request) (set : KeySet) : ℕ → Option Text → Type 0
   enciphered : Writes-iv q set 2 (some (ascii "E" ++ hex-text 16 (conceal (keys-in set) (q .iv))))
 
 -- the fields of the message
-pub record Writes-fields (e : Entry) (q : Request) (set : KeySet) (m : Ksm) : Type 0 where
-  pub first : Writes-key e (q .first) (m .kd)
+pub record Writes-fields (us : Text) (e : Entry) (q : Request) (set : KeySet) (m : Ksm) : Type 0 where
+  pub nos : Marked (q .notarized) (m .nos)
+  pub first : Writes-key us e (m .nos) (q .first) (m .kd)
   pub one : q .count ≡ 1 → m .second ≡ none
-  pub two : q .count ≡ 2 → (k : Kd) × (m .second ≡ some k) × Writes-key e (q .second) k
+  pub two : q .count ≡ 2 → (k : Kd) × (m .second ≡ some k) × Writes-key us e (m .nos) (q .second) k
   pub iv : Writes-iv q set (q .kind) (m .iv)
   pub date : Asked (q .date .digits) (q .dated) (m .edk)
   pub count : m .ctp ≡ e .sending .next
@@ -167,5 +169,5 @@ pub record Builds (us id : Text) (e : Entry) (q : Request) (a : After) : Type 0 
   pub receiving-stays : later .receiving ≡ e .receiving
   pub message : Ksm
   pub written : Carries us id (ksm message) (a .outcome .reply)
-  pub fields : Writes-fields e q (later .sending .outgoing) message
+  pub fields : Writes-fields us e q (later .sending .outgoing) message
   pub sealed : Sealed (later .sending .outgoing) (a .outcome .reply) (message .mac)

@@ -85,13 +85,13 @@ pub record Steps : Type 0 where
   pub even-key-is-K : (t : Table) (room : ℕ) (text id : Text) (m : Ksm) (e : Entry) → Comes t room id e
       → Carries id (bare (t .own)) (ksm m) text
       → ((k : Kd) → Kd-of m k → Ours e k)
-      → (k : Kd) → Kd-of m k → k .p ≡ true → odd (in-clear e m k) ≡ false
+      → (k : Kd) → Kd-of m k → k .p ≡ true → odd (in-clear (bare (t .own)) e m k) ≡ false
       → Tells (bare (t .own)) id (ascii "K") none none (run t (receive room text) .outcome)
   -- then F, M and P are all judged: 4 with all that hold; with P go CTP (ours, expected) and CTR (received)
   pub faults-are-told-together : (t : Table) (room : ℕ) (text id : Text) (m : Ksm) (e : Entry) (set : KeySet)
       (formed sealed counted : Bool) → Comes t room id e
       → Carries id (bare (t .own)) (ksm m) text
-      → ((k : Kd) → Kd-of m k → Ours e k) → ((k : Kd) → Kd-of m k → Even-only-unmarked e m k) → Brings e m set
+      → ((k : Kd) → Kd-of m k → Ours e k) → ((k : Kd) → Kd-of m k → Even-only-unmarked (bare (t .own)) e m k) → Brings (bare (t .own)) e m set
       → Judged (Formed-ksm set m) formed → Judged (Sealed set text (m .mac)) sealed
       → Judged (In-turn (e .receiving .expected) (m .ctp)) counted → formed && sealed && counted ≡ false
       → Tells (bare (t .own)) id (unless formed (ascii "F") ++ (unless sealed (ascii "M") ++ unless counted (ascii "P")))
@@ -99,11 +99,11 @@ pub record Steps : Type 0 where
   -- each good KSM is accepted
   pub good-ksm-is-accepted : (t : Table) (room : ℕ) (text id : Text) (m : Ksm) (e : Entry) → Comes t room id e
       → Carries id (bare (t .own)) (ksm m) text
-      → Good-ksm e text m → Accepts (bare (t .own)) id e m (run t (receive room text))
+      → Good-ksm (bare (t .own)) e text m → Accepts (bare (t .own)) id e m (run t (receive room text))
   -- and no other
   pub accepted-ksm-is-good : (t : Table) (room : ℕ) (text id : Text) (m : Ksm) (e : Entry)
       → Carries id (bare (t .own)) (ksm m) text → entry-of id t ≡ some e
-      → run t (receive room text) .outcome .answer ≡ 0 → Good-ksm e text m
+      → run t (receive room text) .outcome .answer ≡ 0 → Good-ksm (bare (t .own)) e text m
   -- ---- an RSM
   -- not waiting, 5
   pub rsm-in-vain : (t : Table) (room : ℕ) (text id : Text) (m : Rsm) (e : Entry) → Comes t room id e

@@ -1,4 +1,4 @@
-// What a host asks for when it has a key message built, as it hands it over: the request's 73 bytes, field by field; the room
+// What a host asks for when it has a key message built, as it hands it over: the request's 74 bytes, field by field; the room
 // for a reply, and the letters of an error.
 pub mod letters;
 
@@ -17,7 +17,8 @@ pub struct Date {
     pub digits: [u8; 12],
 }
 
-// How many keys, two places for them, the IV's kind (0 none, 1 plain, 2 enciphered) and value, whether there is a date.
+// How many keys, two places for them, the IV's kind (0 none, 1 plain, 2 enciphered) and value, whether there is a date, and
+// whether the keys are notarized.
 pub struct Request {
     pub count: u8,
     pub first: KeyRequest,
@@ -26,4 +27,5 @@ pub struct Request {
     pub iv: u64,
     pub dated: u8,
     pub date: Date,
+    pub notarized: u8,
 }

@@ -67,11 +67,11 @@ named-octets (some w) h = name-octets w h
 
 -- ---- receive
 
-brought-held : (e : Entry) (m : Ksm) → legal-body (ksm m) ≡ true → HeldSet (brought e m)
+brought-held : (us : Text) (e : Entry) (m : Ksm) → legal-body (ksm m) ≡ true → HeldSet (brought us e m)
 unfolding brought
-brought-held e m h = let p = ksm-parts m h in go (m .second) (p .first) (p .second)
+brought-held us e m h = let p = ksm-parts m h in go (m .second) (p .first) (p .second)
   where
-    held : (k : Kd) → kd .legal k ≡ true → HeldKey (brought-key e m k)
+    held : (k : Kd) → kd .legal k ≡ true → HeldKey (brought-key us e m k)
     held k l = record {
       key = unseal-lt _ (k .key);
       name = held-name-of (named (k .idk1)) (named-octets (k .idk1) (kd-name k l));
@@ -79,11 +79,11 @@ brought-held e m h = let p = ksm-parts m h in go (m .second) (p .first) (p .seco
 
     go : (o : Option Kd) → kd .legal (m .kd) ≡ true → maybe-legal (field KD) o ≡ true
         → HeldSet (elim o as (λ x. KeySet) [
-          | none ↦ one-key (brought-key e m (m .kd))
-          | some k ↦ two-keys (brought-key e m (m .kd)) (brought-key e m k)
+          | none ↦ one-key (brought-key us e m (m .kd))
+          | some k ↦ two-keys (brought-key us e m (m .kd)) (brought-key us e m k)
         ])
-    go none a b = held-one (brought-key e m (m .kd)) (held (m .kd) a)
-    go (some k) a b = held-two (brought-key e m (m .kd)) (brought-key e m k) (held (m .kd) a) (held k b)
+    go none a b = held-one (brought-key us e m (m .kd)) (held (m .kd) a)
+    go (some k) a b = held-two (brought-key us e m (m .kd)) (brought-key us e m k) (held (m .kd) a) (held k b)
 
 module _ (us : Text) (e : Entry) (h : Held e) where
   receive-held : (text : Text) (b : Body) → legal-body b ≡ true → Fits (by-class.receive us e text b)
@@ -91,7 +91,7 @@ module _ (us : Text) (e : Entry) (h : Held e) where
   receive-held text (rsi m) l = h
   receive-held text (ksm m) l =
       by-case Fits _ _ _ (λ _. h) λ _. by-case Fits _ _ _ (λ _. h) λ _. by-case Fits _ _ _ (λ _. h) λ _.
-      held-with-receiving e _ h (held-accepted (m .ctp) (brought e m) (brought-held e m l))
+      held-with-receiving e _ h (held-accepted (m .ctp) (brought us e m) (brought-held us e m l))
   receive-held text (rsm m) l =
       by-case Fits _ _ _ (λ _. h) λ _. by-case Fits _ _ _ (λ _. h) λ _. held-with-sending e _ h (held-settled (e .sending) (h .sending))
   receive-held text (esm m) l = by-case Fits _ _ _ (λ _. h) λ _.

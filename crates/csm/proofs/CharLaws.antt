@@ -11,7 +11,7 @@ use Rattle.octets.specs.Text.{Text, ascii, blank, all}
 use Rattle.octets.proofs.Comparing.{both as and-true}
 use Rattle.csm.specs.Format.{maybe-legal, maybe-print}
 use Rattle.csm.specs.Fields.{Contents, tag, contents, field}
-use Rattle.csm.specs.Fields.{Field, MCL, RCV, ORG, SVR, KD, IV, EDK, CTP, CTR, ERF, MAC, EDC}
+use Rattle.csm.specs.Fields.{Field, MCL, RCV, ORG, SVR, NOS, KD, IV, EDK, CTP, CTR, ERF, MAC, EDC}
 use Rattle.csm.specs.Message.{Row, one, opt, Values, fields, closed, head-row, rsi-row, ksm-row, rsm-row}
 use Rattle.csm.specs.Message.{esm-row, rsi-values, ksm-values, rsm-values, esm-values, counts-with-P}
 use Rattle.csm.specs.Message.{Body, rsi, ksm, rsm, esm, option, Reading, text-char, legal-body, print-body}
@@ -28,6 +28,7 @@ tag-chars MCL = refl
 tag-chars RCV = refl
 tag-chars ORG = refl
 tag-chars SVR = refl
+tag-chars NOS = refl
 tag-chars KD = refl
 tag-chars IV = refl
 tag-chars EDK = refl

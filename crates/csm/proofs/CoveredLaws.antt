@@ -13,8 +13,8 @@ use Rattle.octets.specs.Text.{Text, ascii, blank, free, starts}
 use Rattle.octets.proofs.Comparing.{both as and-true}
 use Rattle.csm.specs.Format.{maybe-legal}
 use Rattle.csm.specs.Fields.{tag, field, contents}
-use Rattle.csm.specs.Fields.{Field, Contents, KD, IV, EDK, CTP, MAC}
-use Rattle.csm.specs.Message.{Row, one, opt, Values, fields, head-row, head-of, head}
+use Rattle.csm.specs.Fields.{Field, Contents, NOS, KD, IV, EDK, CTP, MAC}
+use Rattle.csm.specs.Message.{Row, one, opt, Values, fields, head-row, flagged, head-of, head}
 use Rattle.csm.specs.Message.{print-body, legal-body, message, fits}
 use Rattle.csm.specs.Message.{Body, rsi, ksm, rsm, esm, option, Reading, legal, read, print}
 use Rattle.csm.specs.Covered.{before, covered, covered-part, covered-fields, keyed-row, keyed-values}
@@ -121,12 +121,13 @@ sealed-body (option c w) m e = absurd (none-some m e)
 pub sealed-passed : (b : Body) (m : ℕ) → mac-of b ≡ some m → legal-body b ≡ true → Passed (covered-fields b)
 sealed-passed (rsi r) m e k = absurd (none-some m e)
 sealed-passed (ksm r) m e k =
-    let first = and-true (field KD .legal (r .kd)) _ k in
+    let nos = and-true (maybe-legal (field NOS) (flagged (r .nos))) _ k in
+    let first = and-true (field KD .legal (r .kd)) _ (nos .1) in
     let second = and-true (maybe-legal (field KD) (r .second)) _ (first .1) in
     let iv = and-true (maybe-legal (field IV) (r .iv)) _ (second .1) in
     let edk = and-true (maybe-legal (field EDK) (r .edk)) _ (iv .1) in
     let ctp = and-true (field CTP .legal (r .ctp)) _ (edk .1) in
-    row-passed keyed-row (keyed-values r) (rw (first .0, second .0, iv .0, edk .0, ctp .0)) refl
+    row-passed keyed-row (keyed-values r) (rw (nos .0, first .0, second .0, iv .0, edk .0, ctp .0)) refl
 sealed-passed (rsm r) m e k = λ s. refl
 sealed-passed (esm r) m e k = absurd (none-some m e)
 sealed-passed (option c w) m e k = absurd (none-some m e)

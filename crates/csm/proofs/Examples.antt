@@ -12,7 +12,7 @@ use Rattle.octets.specs.Part.{found}
 use Rattle.csm.specs.Format.{value}
 use Rattle.csm.specs.Fields.{Kd, kd, Class, RSI, KSM, DSM, ERS, RFS, RTR}
 use Rattle.csm.specs.Message.{Reading, Body, rsi, ksm, rsm, esm, option, read, print}
-use Rattle.csm.specs.Covered.{covered}
+use Rattle.csm.specs.Covered.{covered, covered-part}
 
 -- to whom, from whom, what
 abbrev to : String → String → Body → Reading
@@ -44,6 +44,7 @@ two-keys :
     ++ ascii "IV/E0123456789ABCDEF EDK/840229235959 CTP/12 MAC/0123 ABCD )"
     )
     ≡ some (to "B" "A" (ksm (record {
+      nos = false;
       kd = key 0x0123456789abcdef true none none;
       second = some (key 0xfedcba9876543210 false none (some (ascii "T")));
       iv = some (ascii "E0123456789ABCDEF");
@@ -53,6 +54,33 @@ two-keys :
     })))
 unfolding read
 two-keys = refl
+
+-- a notarized KSM: its MAC covers NOS
+abbrev notarized : Text
+notarized = ascii "CSM(MCL/KSM RCV/B ORG/A NOS/ KD/0123456789ABCDEF CTP/1 MAC/0123 ABCD )"
+
+abbrev notarized-reading : Reading
+notarized-reading =
+    to "B" "A" (ksm (record {
+      nos = true;
+      kd = key 0x0123456789abcdef false none none;
+      second = none;
+      iv = none;
+      edk = none;
+      ctp = 1;
+      mac = 0x0123abcd;
+    }))
+
+notarized-read : read notarized ≡ some notarized-reading
+unfolding read
+notarized-read = refl
+
+abbrev notarized-covers : Text
+notarized-covers = ascii "MCL/KSM RCV/B ORG/A NOS/ KD/0123456789ABCDEF CTP/1 "
+
+notarized-covered : (covered notarized ≡ notarized-covers) × (covered-part notarized-reading ≡ notarized-covers)
+unfolding covered covered-part
+notarized-covered = (refl, refl)
 
 -- an RSM from MILL to HARBOR: 47 bytes, MAC over 28
 answer : print (to "HARBOR" "MILL" (rsm (record { mac = 0x0123abcd })))
@@ -93,7 +121,6 @@ options :
     × (read (ascii "CSM(MCL/RFS RCV/B ORG/A X )") ≡ option-of RFS "X ")
     × (read (ascii "CSM(MCL/RTR RCV/B ORG/A  )") ≡ option-of RTR " ")
     × (read (ascii "CSM(MCL/KSM RCV/B ORG/A IDC/X )") ≡ option-of KSM "IDC/X ")
-    × (read (ascii "CSM(MCL/KSM RCV/B ORG/A NOS/ KD/.. )") ≡ option-of KSM "NOS/ KD/.. ")
     × (read (ascii "CSM(MCL/KSM RCV/B ORG/A KK/X )") ≡ option-of KSM "KK/X ")
     × (read (ascii "CSM(MCL/KSM RCV/B ORG/A *KK/X )") ≡ option-of KSM "*KK/X ")
     × (read (ascii "CSM(MCL/KSM RCV/B ORG/A KKU/X )") ≡ option-of KSM "KKU/X ")
@@ -102,7 +129,7 @@ options :
     × (read (ascii "CSM(MCL/RSI RCV/B ORG/A IDU/X )") ≡ option-of RSI "IDU/X ")
     × (read (ascii "CSM(MCL/RSI RCV/B ORG/A IDC/X )") ≡ option-of RSI "IDC/X ")
 unfolding read
-options = (refl, refl, refl, refl, refl, refl, refl, refl, refl, refl, refl, refl, refl, refl)
+options = (refl, refl, refl, refl, refl, refl, refl, refl, refl, refl, refl, refl, refl)
 
 -- ---- 512 bytes are read, 513 are none
 
@@ -146,6 +173,15 @@ refused : none-of (
     -- an IV of 18, an EDK of 11
     ∷ "CSM(MCL/KSM RCV/B ORG/A KD/0123456789ABCDEF IV/E0123456789ABCDEF0 CTP/1 MAC/0123 ABCD )"
     ∷ "CSM(MCL/KSM RCV/B ORG/A KD/0123456789ABCDEF EDK/84022923595 CTP/1 MAC/0123 ABCD )"
+    -- NOS twice, after a KD, with contents, before what is no KD
+    ∷ "CSM(MCL/KSM RCV/B ORG/A NOS/ NOS/ KD/0123456789ABCDEF CTP/1 MAC/0123 ABCD )"
+    ∷ "CSM(MCL/KSM RCV/B ORG/A KD/0123456789ABCDEF NOS/ CTP/1 MAC/0123 ABCD )"
+    ∷ "CSM(MCL/KSM RCV/B ORG/A NOS/X KD/0123456789ABCDEF CTP/1 MAC/0123 ABCD )"
+    ∷ "CSM(MCL/KSM RCV/B ORG/A NOS/ CTP/1 MAC/0123 ABCD )"
+    ∷ "CSM(MCL/KSM RCV/B ORG/A NOS/ KD/.. )"
+    ∷ "CSM(MCL/KSM RCV/B ORG/A NOS/ IDC/X )"
+    ∷ "CSM(MCL/KSM RCV/B ORG/A NOS/ KK/X )"
+    ∷ "CSM(MCL/KSM RCV/B ORG/A NOS/ )"
     -- counts without P, one count with P, P without counts
     ∷ "CSM(MCL/ESM RCV/MILL ORG/HARBOR CTP/5 CTR/4 ERF/F )"
     ∷ "CSM(MCL/ESM RCV/MILL ORG/HARBOR CTP/5 ERF/F )"

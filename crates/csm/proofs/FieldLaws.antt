@@ -14,13 +14,13 @@ use borrow.Author.Tests.{eqb-true, ne-eqb, ltb-true, not-true}
 use Rattle.octets.specs.Text.{Text, ascii, blank, dot, all, free, same, within, run-char, is-run}
 use Rattle.octets.proofs.Comparing.{both as and-true}
 use Rattle.csm.specs.Format.{Word, Format, plain, upto}
-use Rattle.csm.specs.Fields.{numeral, hex-text, hex, decimal, count, svr}
+use Rattle.csm.specs.Fields.{nothing, numeral, hex-text, hex, decimal, count, svr}
 use Rattle.csm.specs.Fields.{erf, Kd, sub, mark, named, subfields, legal-name, split, nonempty}
 use Rattle.csm.specs.Fields.{kd-guess, keyed, mcl, class-text, join-halves, halves, in-halves}
 use Rattle.csm.specs.Fields.{half-digits}
 use Rattle.csm.specs.Fields.{tag, contents, field}
 use Rattle.csm.specs.Fields.{Class, RSI, KSM, RSM, ESM, DSM, ERS, RFS, RTR}
-use Rattle.csm.specs.Fields.{Field, MCL, RCV, ORG, SVR, KD, IV, EDK, CTP, CTR, ERF, MAC, EDC}
+use Rattle.csm.specs.Fields.{Field, MCL, RCV, ORG, SVR, NOS, KD, IV, EDK, CTP, CTR, ERF, MAC, EDC}
 use Rattle.csm.specs.Message.{text-char}
 use Rattle.csm.proofs.TextLaws.{within-true, true-within, all-append, all-weaker, all-free, below}
 pub use Rattle.csm.proofs.TextLaws.{below-at}
@@ -58,6 +58,10 @@ is-run-word top low high l w k =
 -- runs: names, IV, EDK
 pub run-right : (top low high : ℕ) → top ≤ 90 → Right word-char (plain (is-run top low high))
 run-right top low high l = record { right = λ w k. refl; chars = is-run-word top low high l }
+
+-- NOS
+nothing-right : Right word-char nothing
+nothing-right = record { right = λ u k. refl; chars = λ u k. refl }
 
 -- ---- numbers
 
@@ -276,6 +280,7 @@ contents-sound MCL = word-sound mcl-right
 contents-sound RCV = word-sound (run-right _ _ _ (omega arith))
 contents-sound ORG = word-sound (run-right _ _ _ (omega arith))
 contents-sound SVR = word-sound svr-right
+contents-sound NOS = word-sound nothing-right
 contents-sound KD = word-sound (keyed-right 16)
 contents-sound IV = word-sound (run-right _ _ _ (omega arith))
 contents-sound EDK = word-sound (run-right _ _ _ (omega arith))

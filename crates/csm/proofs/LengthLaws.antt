@@ -1,4 +1,4 @@
--- No field is longer than its longest contents, so no message of known fields is longer than 232 bytes.
+-- No field is longer than its longest contents, so no message of known fields is longer than 237 bytes.
 use mathlib.Core.Path.{_≡_, refl, sym, ap, _∙_}
 use mathlib.Core.Bool.{Bool, true, false, _&&_, true≢false}
 use mathlib.Core.List.{[], _∷_, _++_}
@@ -13,7 +13,7 @@ use Rattle.octets.proofs.Comparing.{both as and-true}
 use Rattle.csm.specs.Format.{maybe-legal, maybe-print}
 use Rattle.csm.specs.Fields.{hex, hex-text, decimal, svr, erf, Kd, sub, mark, named, subfields}
 use Rattle.csm.specs.Fields.{legal-name, kd, class-text, tag, contents, Contents, field}
-use Rattle.csm.specs.Fields.{Field, MCL, RCV, ORG, SVR, KD, IV, EDK, CTP, CTR, ERF, MAC, EDC}
+use Rattle.csm.specs.Fields.{Field, MCL, RCV, ORG, SVR, NOS, KD, IV, EDK, CTP, CTR, ERF, MAC, EDC}
 use Rattle.csm.specs.Message.{Row, one, opt, Values, fields, closed, head-row, rsi-row, ksm-row, rsm-row}
 use Rattle.csm.specs.Message.{esm-row, rsi-values, ksm-values, rsm-values, esm-values, counts-with-P}
 use Rattle.csm.specs.Message.{Body, rsi, ksm, rsm, esm, option, Reading, legal-body, print-body}
@@ -30,6 +30,7 @@ longest-contents MCL = 4
 longest-contents RCV = 17
 longest-contents ORG = 17
 longest-contents SVR = 10
+longest-contents NOS = 1
 longest-contents KD = 53
 longest-contents IV = 18
 longest-contents EDK = 13
@@ -101,6 +102,7 @@ contents-length MCL a k = blank-length 3 (class-text a) (omega (arith, class-siz
 contents-length RCV a k = blank-length 16 a (run-length 90 1 16 a k)
 contents-length ORG a k = blank-length 16 a (run-length 90 1 16 a k)
 contents-length SVR a k = blank-length 9 (svr .text a) (svr-length a k)
+contents-length NOS a k = omega arith
 contents-length KD a k = blank-length 52 (kd .text a) (kd-length a k)
 contents-length IV a k = blank-length 17 a (run-length 90 1 17 a k)
 contents-length EDK a k = blank-length 12 a (run-length 0 12 12 a k)
@@ -153,7 +155,7 @@ known (rsm r) = true
 known (esm r) = true
 known (option c w) = false
 
-pub known-length : (b : Body) → known b ≡ true → legal-body b ≡ true → length (print-body b) ≤ 178
+pub known-length : (b : Body) → known b ≡ true → legal-body b ≡ true → length (print-body b) ≤ 183
 known-length (rsi r) e k = let h = closed-length rsi-row (rsi-values r) k in omega arith
 known-length (ksm r) e k = closed-length ksm-row (ksm-values r) k
 known-length (rsm r) e k = let h = closed-length rsm-row (rsm-values r) k in omega arith
@@ -164,7 +166,7 @@ known-length (esm r) e k =
 known-length (option c w) e k = absurd (true≢false (sym e))
 
 pub message-length : (r : Reading) → known (r .body) ≡ true → message .legal r ≡ true
-    → length (message .print r) ≤ 232
+    → length (message .print r) ≤ 237
 message-length r e k =
     let l = and-true (head .legal (head-of r)) (legal-body (r .body)) k in
     let h = row-length head-row (head-of r) (l .0) in

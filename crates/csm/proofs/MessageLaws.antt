@@ -6,14 +6,15 @@ use mathlib.Core.Option.{Option, none, some}
 use Prim.Native.Char.{code}
 use lib.ListN.{length, drop}
 use Rattle.octets.specs.Text.{Text, ascii, all, starts, is-name}
+use Rattle.octets.specs.Part.{found}
 use Rattle.octets.proofs.Comparing.{both as and-true, starts-split as starts-back}
-use Rattle.csm.specs.Format.{Format, bind, after, plain, as-form, whole}
-use Rattle.csm.specs.Fields.{tag, contents}
+use Rattle.csm.specs.Format.{Format, bind, after, plain, as-form, maybe-legal, whole}
+use Rattle.csm.specs.Fields.{NOS, tag, contents, field}
 use Rattle.csm.specs.Fields.{Class, RSI, KSM, RSM, ESM, DSM, ERS, RFS, RTR}
 use Rattle.csm.specs.Message.{Row, one, opt, Values, fields, head-row, rsi-row, ksm-row, rsm-row}
 use Rattle.csm.specs.Message.{esm-row, Head, head, closed}
 use Rattle.csm.specs.Message.{Body, rsi, ksm, rsm, esm, option, Reading, class-of}
-use Rattle.csm.specs.Message.{rsi-values, rsi-record, rsi-form, ksm-values, ksm-record, ksm-form}
+use Rattle.csm.specs.Message.{rsi-values, rsi-record, rsi-form, flagged, ksm-values, ksm-record, ksm-form}
 use Rattle.csm.specs.Message.{rsm-values, rsm-record, rsm-form, esm-values, esm-record, esm-form}
 use Rattle.csm.specs.Message.{counts-with-P, text-char, ends-blank, starts-any, ksm-options, rsi-options}
 use Rattle.csm.specs.Message.{is-option, is-rest, rest, legal-body, print-body, under, or-else}
@@ -74,8 +75,23 @@ record-lawful rs k f g gf fg = as-form-lawful f g (fields-lawful rs (ascii ")") 
 pub rsi-lawful : Lawful rsi-form
 rsi-lawful = record-lawful rsi-row refl rsi-record rsi-values (λ v. refl) (λ r. refl)
 
+-- NOS is there or not, and legal either way
+pub flagged-found : (o : Option (Unit {0})) → flagged (found o) ≡ o
+flagged-found none = refl
+flagged-found (some u) = refl
+
+pub found-flagged : (b : Bool) → found (flagged b) ≡ b
+found-flagged true = refl
+found-flagged false = refl
+
+pub flagged-legal : (b : Bool) → maybe-legal (field NOS) (flagged b) ≡ true
+flagged-legal true = refl
+flagged-legal false = refl
+
 pub ksm-lawful : Lawful ksm-form
-ksm-lawful = record-lawful ksm-row refl ksm-record ksm-values (λ v. refl) (λ r. refl)
+ksm-lawful =
+    record-lawful ksm-row refl ksm-record ksm-values (λ v i. (flagged-found (v .0) i, v .1))
+    (λ r. rw (found-flagged (r .nos)))
 
 pub rsm-lawful : Lawful rsm-form
 rsm-lawful = record-lawful rsm-row refl rsm-record rsm-values (λ v. refl) (λ r. refl)

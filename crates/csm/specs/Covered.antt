@@ -5,8 +5,8 @@ use mathlib.Core.Option.{Option, none, some}
 use Prim.Native.Nat.{ℕ}
 use lib.ListN.{drop}
 use Rattle.octets.specs.Text.{Text, ascii, starts}
-use Rattle.csm.specs.Fields.{KD, IV, EDK, CTP}
-use Rattle.csm.specs.Message.{Row, one, opt, Values, fields, head-row, head-of}
+use Rattle.csm.specs.Fields.{NOS, KD, IV, EDK, CTP}
+use Rattle.csm.specs.Message.{Row, one, opt, Values, fields, head-row, flagged, head-of}
 use Rattle.csm.specs.Message.{Ksm, Body, rsi, ksm, rsm, esm, option, Reading}
 
 -- what stands before the first w of a text
@@ -28,11 +28,11 @@ mac-of (option c w) = none
 
 -- of the reading: the head, then the fields before MAC
 abbrev pub keyed-row : Row
-keyed-row = one KD ∷ opt KD ∷ opt IV ∷ opt EDK ∷ one CTP ∷ []
+keyed-row = opt NOS ∷ one KD ∷ opt KD ∷ opt IV ∷ opt EDK ∷ one CTP ∷ []
 
 -- their values
 abbrev pub keyed-values : Ksm → Values keyed-row
-keyed-values r = (r .kd, (r .second, (r .iv, (r .edk, (r .ctp, tt)))))
+keyed-values r = (flagged (r .nos), (r .kd, (r .second, (r .iv, (r .edk, (r .ctp, tt))))))
 
 -- the fields between head and MAC
 abbrev pub covered-fields : Body → Text

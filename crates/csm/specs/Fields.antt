@@ -21,6 +21,10 @@ iv = plain (is-run (code "Z") 1 17)
 abbrev pub edk : Word Text
 edk = plain (is-run 0 12 12)
 
+-- NOS: empty contents
+abbrev pub nothing : Word (Unit {0})
+nothing = record { legal = λ u. true; text = λ u. []; guess = λ w. tt }
+
 -- ---- numbers
 
 -- the digit of d, 0 to 9 and A to F; and the value of a digit
@@ -227,7 +231,7 @@ check = in-halves half-digits
 -- ---- the fields
 
 pub data Field : Type 0 where
-  MCL RCV ORG SVR KD IV EDK CTP CTR ERF MAC EDC : Field
+  MCL RCV ORG SVR NOS KD IV EDK CTP CTR ERF MAC EDC : Field
 
 -- tag and `/`
 abbrev pub tag : Field → Text
@@ -235,6 +239,7 @@ tag MCL = ascii "MCL/"
 tag RCV = ascii "RCV/"
 tag ORG = ascii "ORG/"
 tag SVR = ascii "SVR/"
+tag NOS = ascii "NOS/"
 tag KD = ascii "KD/"
 tag IV = ascii "IV/"
 tag EDK = ascii "EDK/"
@@ -250,6 +255,7 @@ Contents MCL = Class
 Contents RCV = Text
 Contents ORG = Text
 Contents SVR = ℕ
+Contents NOS = Unit {0}
 Contents KD = Kd
 Contents IV = Text
 Contents EDK = Text
@@ -265,6 +271,7 @@ contents MCL = upto blank mcl
 contents RCV = upto blank name
 contents ORG = upto blank name
 contents SVR = upto blank svr
+contents NOS = upto blank nothing
 contents KD = upto blank kd
 contents IV = upto blank iv
 contents EDK = upto blank edk

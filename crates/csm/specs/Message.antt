@@ -12,7 +12,7 @@ use Rattle.csm.specs.Format.{Format, bind, plain, upto, just, pre, both,
 use Rattle.csm.specs.Format.{whole}
 use Rattle.csm.specs.Fields.{Kd, has-P, field, Contents}
 use Rattle.csm.specs.Fields.{Class, RSI, KSM, RSM, ESM, DSM, ERS, RFS, RTR}
-use Rattle.csm.specs.Fields.{Field, MCL, RCV, ORG, SVR, KD, IV, EDK, CTP, CTR, ERF, MAC, EDC}
+use Rattle.csm.specs.Fields.{Field, MCL, RCV, ORG, SVR, NOS, KD, IV, EDK, CTP, CTR, ERF, MAC, EDC}
 
 -- ---- a row of fields, each there once or at most once, and what ends the row
 
@@ -43,7 +43,7 @@ abbrev pub rsi-row : Row
 rsi-row = one SVR ∷ opt EDC ∷ []
 
 abbrev pub ksm-row : Row
-ksm-row = one KD ∷ opt KD ∷ opt IV ∷ opt EDK ∷ one CTP ∷ one MAC ∷ []
+ksm-row = opt NOS ∷ one KD ∷ opt KD ∷ opt IV ∷ opt EDK ∷ one CTP ∷ one MAC ∷ []
 
 abbrev pub rsm-row : Row
 rsm-row = one MAC ∷ []
@@ -51,13 +51,14 @@ rsm-row = one MAC ∷ []
 abbrev pub esm-row : Row
 esm-row = opt CTP ∷ opt CTR ∷ one ERF ∷ opt EDC ∷ []
 
--- ---- their readings; an option keeps its rest as text
+-- ---- their readings; of NOS, whether it is there; an option keeps its rest as text
 
 pub record Rsi : Type 0 where
   pub svr : ℕ
   pub edc : Option ℕ
 
 pub record Ksm : Type 0 where
+  pub nos : Bool
   pub kd : Kd
   pub second : Option Kd
   pub iv : Option Text
@@ -102,12 +103,17 @@ rsi-values r = (r .svr, (r .edc, tt))
 abbrev pub rsi-record : Values rsi-row → Rsi
 rsi-record (svr, (edc, u)) = record { svr = svr; edc = edc }
 
+-- a field without contents, by whether it is there
+abbrev pub flagged : Bool → Option (Unit {0})
+flagged true = some tt
+flagged false = none
+
 abbrev pub ksm-values : Ksm → Values ksm-row
-ksm-values r = (r .kd, (r .second, (r .iv, (r .edk, (r .ctp, (r .mac, tt))))))
+ksm-values r = (flagged (r .nos), (r .kd, (r .second, (r .iv, (r .edk, (r .ctp, (r .mac, tt)))))))
 
 abbrev pub ksm-record : Values ksm-row → Ksm
-ksm-record (kd, (second, (iv, (edk, (ctp, (mac, u)))))) =
-    record { kd = kd; second = second; iv = iv; edk = edk; ctp = ctp; mac = mac }
+ksm-record (nos, (kd, (second, (iv, (edk, (ctp, (mac, u))))))) =
+    record { nos = found nos; kd = kd; second = second; iv = iv; edk = edk; ctp = ctp; mac = mac }
 
 abbrev pub rsm-values : Rsm → Values rsm-row
 rsm-values r = (r .mac, tt)
@@ -154,10 +160,10 @@ esm-form = such-that counts-with-P (as-form esm-record esm-values (closed esm-ro
 
 -- ---- options: after the head a rest, which in a KSM and an RSI starts with one of some tags
 
--- IDC, NOS, KK, *KK, KKU, *KKU, KDU in a KSM
+-- IDC, KK, *KK, KKU, *KKU, KDU in a KSM
 abbrev pub ksm-options : List Text
 ksm-options =
-    ascii "IDC/" ∷ ascii "NOS/" ∷ ascii "KK/" ∷ ascii "*KK/"
+    ascii "IDC/" ∷ ascii "KK/" ∷ ascii "*KK/"
     ∷ ascii "KKU/" ∷ ascii "*KKU/" ∷ ascii "KDU/" ∷ []
 
 -- IDU, IDC in an RSI

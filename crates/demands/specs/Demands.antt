@@ -62,7 +62,7 @@ pub record Demand-1 : Type 0 where
 pub record Demand-2 : Type 0 where
   -- each text has at most one reading and each reading one text
   pub texts : csm.Claims
-  -- a key that is sealed is unsealed, an IV that is concealed is revealed
+  -- a key that is sealed, plain or notarized, is unsealed, an IV that is concealed is revealed
   pub keys : keying.Claims
   -- a record and an image are read back as they were written
   pub records : partner.Claims
@@ -105,7 +105,7 @@ pub record Demand-2 : Type 0 where
       → (leaves image buffer (ask partner) .answer ≡ 0) × (entry-told image buffer partner ≡ e)
   pub told-is-stored : (image buffer partner : Text) → Bytes image → leaves image buffer (ask partner) .answer ≡ 0
       → entry-stored image partner ≡ some (entry-told image buffer partner)
-  -- what one end builds the other reads back, and its answer is taken
+  -- what one end builds, plain or notarized, the other reads back, and its answer is taken
   pub exchange : (x : Exchange) (t u : Table) (e f : Entry) → Bytes (x .a) → Bytes (x .b) → Bytes (x .request)
       → decode (x .a) ≡ some t → decode (x .b) ≡ some u → x .partner ≡ bare (u .own)
       → step.Partners t u e f → Good-request e (request-in (x .request))

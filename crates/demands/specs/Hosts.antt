@@ -116,7 +116,7 @@ module _ (a b name : Text) (top : Top) where
     pub message : Ksm
     pub sent-by-a : text ∈ h .from-a
     pub reading : read text ≡ some (a-to-b a b name top (ksm message))
-    pub carried : brought (line.entry-for name top a) message ≡ ours .outgoing
+    pub carried : brought b (line.entry-for name top a) message ≡ ours .outgoing
     pub for-a : Entry
     pub held : entry-stored (h .b) a ≡ some for-a
     pub in-step : line.In-step ours (for-a .receiving) message

@@ -1,6 +1,6 @@
 -- What the code answers, from what the formats of csm read.
 use mathlib.Core.Bool.{false, cond}
-use mathlib.Core.List.{_∷_, _++_}
+use mathlib.Core.List.{[], _∷_, _++_}
 use mathlib.Core.Option.{Option, none, some}
 use Prim.Native.Nat.{ℕ, _+_, _/_, _%_, _^_}
 use lib.ListN.{length}
@@ -8,7 +8,7 @@ use Rattle.octets.specs.Text.{Text, blank}
 use Rattle.octets.specs.Part.{found, nowhere}
 use Rattle.octets.specs.declared.Span.{Span}
 use Rattle.csm.specs.Fields.{named, hex-text, half-digits, class-text, svr, kd, count, erf, Field, Contents, tag}
-use Rattle.csm.specs.Fields.{MCL, RCV, ORG, SVR, KD, IV, EDK, CTP, CTR, ERF, MAC, EDC}
+use Rattle.csm.specs.Fields.{MCL, RCV, ORG, SVR, NOS, KD, IV, EDK, CTP, CTR, ERF, MAC, EDC}
 use Rattle.csm.specs.Fields.{RSI, KSM, RSM, ESM, DSM, ERS, RFS, RTR}
 use Rattle.csm.specs.Fields as csm
 use Rattle.fields.specs.declared.Place.{Place}
@@ -41,6 +41,7 @@ inner MCL c = class-text c
 inner RCV w = w
 inner ORG w = w
 inner SVR n = svr .text n
+inner NOS u = []
 inner KD k = kd .text k
 inner IV w = w
 inner EDK w = w

@@ -10,7 +10,7 @@ odd κs a x y v w p q = (alike p q, refl)
 pub odd-top : One-outcome fn.odd_top.ended fn.odd_top.Reads.Post
 odd-top κs a x y v w p q = (alike p q, refl)
 
-pub working : One-outcome fn.working.ended fn.working.Reads.Post
+pub working : One-outcome fn.notary.working.ended fn.notary.working.Reads.Post
 working κs a x y v w p q = (alike p q, refl)
 
 pub seal : One-outcome fn.seal.ended fn.seal.Reads.Post

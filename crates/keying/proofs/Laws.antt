@@ -14,9 +14,11 @@ use Rattle.keying.specs.declared.Top.{Top}
 use Rattle.keying.specs.declared.Top.the-variants.{Single, Pair}
 use Rattle.keying.specs.declared.Blocks.{Blocks}
 use Rattle.keying.specs.Keys.{halves, seal, unseal, way, each}
+use Rattle.keying.specs.Working.{working}
 use Rattle.keying.specs.Mac.{mac}
 use Rattle.keying.specs.Iv.{last-key, conceal, reveal}
 use Rattle.keying.specs.Claims.{Claims}
+use Rattle.keying.proofs.Characters.{one-bit-left}
 
 -- f of one block, and of two
 pub one-block : (f : ℕ → ℕ) (b : Blocks) {x : ℕ} → x ≡ f (b .first) → b .two ≡ false
@@ -115,6 +117,8 @@ reveal-lt keys x = decipher-lt (last-key keys) x
 
 pub claims : Claims
 claims = record {
+  round-trip = λ n org rcv top count. unseal-seal (working n org rcv top count);
+  one-bit-to-the-left = one-bit-left;
   unseal-after-seal = unseal-seal;
   seal-after-unseal = seal-unseal;
   sealed-is-a-block = seal-lt;

@@ -1,7 +1,8 @@
 -- The numbers hold, by computation.
 use mathlib.Core.Path.{refl}
 use Rattle.keying.specs.Parity.{odd, odd-byte}
-use Rattle.keying.specs.Keys.{offset, odd-top}
+use Rattle.keying.specs.Keys.{odd-top}
+use Rattle.keying.specs.Working.{offset}
 use Rattle.keying.specs.Date.{is-date, is-day, is-time, days-in, leap}
 use Rattle.keying.specs.Numbers.{Numbers}
 

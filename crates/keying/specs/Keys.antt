@@ -1,8 +1,7 @@
--- Top keys, the working key of a message, and data keys enciphered under it.
+-- Top keys, and data keys enciphered under a working key.
 use mathlib.Core.Bool.{Bool, cond}
 use mathlib.Core.List.{List, [], _∷_, reverse}
 use Prim.Native.Nat.{ℕ}
-use lib.Bits.{bitXor}
 use Rattle.octets.specs.Text.{all}
 use Rattle.dea.specs.Dea.{cipher, encipher, decipher}
 use Rattle.keying.specs.declared.Top.{Top}
@@ -20,15 +19,6 @@ halves (Pair left right) = left ∷ right ∷ []
 -- odd parity of a top key: of each half in use
 unfoldable pub odd-top : Top → Bool
 odd-top top = all odd (halves top)
-
--- section 7.4: the count as a 64-bit number, exclusive-or'ed to the key
-unfoldable pub offset : ℕ → ℕ → ℕ
-offset count key = bitXor key count
-
--- the key that a message's data keys go under: the top key offset by its count, both halves of a pair
-unfoldable pub working : Top → ℕ → Top
-working (Single key) count = Single (offset count key)
-working (Pair left right) count = Pair (offset count left) (offset count right)
 
 -- a data key under a single key; under a pair ede(K) = eL(dR(eL(K)))
 unfoldable pub seal : Top → ℕ → ℕ

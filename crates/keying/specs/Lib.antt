@@ -1,5 +1,6 @@
 pub mod Parity
 pub mod Keys
+pub mod Working
 pub mod Mac
 pub mod Iv
 pub mod Date

@@ -5,7 +5,8 @@ use mathlib.Core.List.{[], _∷_}
 use Rattle.octets.specs.Text.{ascii}
 use Rattle.keying.specs.declared.Top.the-variants.{Single, Pair}
 use Rattle.keying.specs.Parity.{odd, odd-byte}
-use Rattle.keying.specs.Keys.{offset, odd-top}
+use Rattle.keying.specs.Keys.{odd-top}
+use Rattle.keying.specs.Working.{offset}
 use Rattle.keying.specs.Date.{is-date, days-in}
 
 pub record Numbers : Type 0 where

@@ -5,10 +5,14 @@ ghost use Prim.Native.Nat.{_+_, _<_};
 ghost use lib.ListN.{getD};
 ghost use Rattle.octets.specs.Text.{is-run, within};
 ghost use Rattle.keying.specs.Parity.{odd};
-ghost use Rattle.keying.specs.Keys.{odd-top, working, seal, unseal, halves, way, each, listed};
+ghost use Rattle.keying.specs.Keys.{odd-top, seal, unseal, halves, way, each, listed};
 ghost use Rattle.keying.specs.Mac.{mac-key, mac};
 ghost use Rattle.keying.specs.Iv.{last-key, conceal, reveal};
 ghost use Rattle.keying.specs.Date.{leap, days-in, is-day, is-time, digit, two, is-date};
+
+mod notary;
+
+pub use notary::working;
 
 // A top key: single, or a pair with left and right.
 pub enum Top {
@@ -53,16 +57,6 @@ pub fn odd_top(top: Top) -> bool
     match top {
         Top::Single(key) => odd(key),
         Top::Pair(left, right) => odd(left) && odd(right),
-    }
-}
-
-// The top key offset by a count: the key that data keys go under.
-pub fn working(top: Top, count: u64) -> Top
-    ensures { λ r. ⌜ r ≡ working top count ⌝ }
-{
-    match top {
-        Top::Single(key) => Top::Single(key ^ count),
-        Top::Pair(left, right) => Top::Pair(left ^ count, right ^ count),
     }
 }
 

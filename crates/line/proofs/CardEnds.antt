@@ -1,15 +1,16 @@
 -- The card's two ends as the theorem sees them: texts by their readings, units by their fields.
-use mathlib.Core.Path.{_≡_, refl, ap, _∙_}
+use mathlib.Core.Path.{_≡_, refl, _∙_}
 use mathlib.Core.Bool.{true, false}
 use mathlib.Core.Logic.{_≢_}
 use mathlib.Core.Option.{Option, none, some}
 use Prim.Native.Nat.{ℕ, _<_}
 use native.Mathlib.Omega.{arith}
-use Rattle.octets.specs.Text.{Text, same}
+use Rattle.octets.specs.Text.{Text, same, is-name}
 use Rattle.octets.proofs.Comparing.{same-equal, differs-same, same-self as same-refl}
 use Rattle.keying.specs.declared.Top.{Top}
 use Rattle.keying.specs.declared.Top.the-variants.{Single, Pair}
-use Rattle.keying.specs.Keys.{working, unseal}
+use Rattle.keying.specs.Keys.{unseal}
+use Rattle.keying.specs.Working.{working}
 use Rattle.keying.specs.Mac.{mac-key, mac}
 use Rattle.csm.specs.Fields.{Kd, named}
 use Rattle.csm.specs.Message.{Ksm, Body, rsi, ksm, rsm, esm, option, Reading, read}
@@ -22,6 +23,7 @@ use Rattle.partner.specs.declared.Entry.{Entry}
 use Rattle.partner.specs.Entry.{name-of, keys-in, top-of, one-key, two-keys}
 use Rattle.partner.specs.Legal.{legal}
 use Rattle.partner.specs.Changes.{loaded}
+use Rattle.partner.proofs.Naming.{bare-filled}
 use Rattle.calls.specs.declared.Request.{Request}
 use Rattle.calls.specs.Words.{if_then_else_, any}
 use Rattle.calls.specs.Receive.{rsm-body, brought}
@@ -39,14 +41,20 @@ unfolding top-of loaded
 top-loaded other name (Single key) = refl
 top-loaded other name (Pair left right) = refl
 
--- of the entry they depend on the top key alone
-pub brought-by-top : (e f : Entry) (m : Ksm) → top-of (e .top) ≡ top-of (f .top) → brought e m ≡ brought f m
+pub partner-loaded : (other name : Text) (top : Top) → is-name other ≡ true → partner (entry-for name top other) ≡ other
+unfolding loaded
+partner-loaded other name top h = bare-filled other h
+
+-- of the entry they depend on the partner and the top key alone
+pub brought-alike : (own : Text) (e f : Entry) (m : Ksm) → partner e ≡ partner f → top-of (e .top) ≡ top-of (f .top)
+    → brought own e m ≡ brought own f m
 unfolding brought
-brought-by-top e f m h =
-    ap (λ (x : Top).
-    let key : Kd → DataKey = λ k.
-    record { key = unseal (working x (m .ctp)) (k .key); name = name-of (named (k .idk1)) } in
-    elim (m .second) [ none ↦ one-key (key (m .kd)) | some k ↦ two-keys (key (m .kd)) (key k) ]) h
+brought-alike own e f m p h = λ j.
+    let key : Kd → DataKey = λ k. record {
+      key = unseal (working (m .nos) (p j) own (h j) (m .ctp)) (k .key);
+      name = name-of (named (k .idk1));
+    } in
+    elim (m .second) [ none ↦ one-key (key (m .kd)) | some k ↦ two-keys (key (m .kd)) (key k) ]
 
 -- ---- A under the identity a, B under b
 
@@ -56,7 +64,7 @@ module _ (a b name : Text) (top : Top) where
   mac-under set = mac (mac-key (keys-in set)) (covered-part (record { rcv = a; org = b; body = rsm-body 0 }))
 
   unfoldable pub carried-in : Body → Carried KeySet
-  carried-in (ksm m) = key-message (m .ctp) (brought (entry-for name top a) m)
+  carried-in (ksm m) = key-message (m .ctp) (brought b (entry-for name top a) m)
   carried-in (rsi m) = no-key-message
   carried-in (rsm m) = no-key-message
   carried-in (esm m) = no-key-message
@@ -152,7 +160,7 @@ module _ (a b name : Text) (top : Top) where
     pub message : Ksm
     pub reading : read t ≡ some (record { rcv = b; org = a; body = ksm message })
     pub count : message .ctp ≡ n
-    pub keys : brought (entry-for name top a) message ≡ k
+    pub keys : brought b (entry-for name top a) message ≡ k
 
   pub read-as : (t : Text) (n : ℕ) (k : KeySet) → carried-by (read t) ≡ key-message n k → Read-as t n k
   unfolding carried-by carried-in if_then_else_

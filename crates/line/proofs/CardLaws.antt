@@ -21,7 +21,8 @@ use Rattle.calls.specs.Outcome.{Turn}
 use Rattle.calls.specs.Receive.{rsm-body, rsm-text, brought}
 use Rattle.calls.specs.Build.{outgoing-of}
 use Rattle.calls.specs.Claims.{Carries}
-use Rattle.partner.proofs.Keeping.{risen-below}
+use Rattle.partner.proofs.Naming.{filled-name}
+use Rattle.partner.proofs.Keeping.{rules, risen-below}
 use Rattle.calls.proofs.Exchange.{keys-back}
 use Rattle.calls.proofs.Requests.{formed}
 use Rattle.calls.proofs.Written.{rsm-written, sent, sent-written}
@@ -29,7 +30,7 @@ use Rattle.line.specs.Line.{_∈_, texts, entry-for}
 use Rattle.line.proofs.CoreEnds
 use Rattle.line.proofs.CoreEnds.{key-message, no-key-message, no-answer}
 use Rattle.line.proofs.CardTurn.{partner, Event, silent, speaks, takes, settles, fails, issues, texts-in, unsaid}
-use Rattle.line.proofs.CardEnds.{top-loaded, brought-by-top, mac-under}
+use Rattle.line.proofs.CardEnds.{top-loaded, partner-loaded, brought-alike, mac-under}
 use Rattle.line.proofs.CardEnds.{carried-in, called-by, answer-in, ends, carried-at, answer-at}
 use Rattle.line.proofs.CardEnds.{carried-by, answer-by, carried-plain, answer-plain}
 
@@ -70,7 +71,7 @@ module _ (a b name : Text) (top : Top) (l : List Text) where
         (other-text body (carried-plain a b name top p) (o .reply) r)
     made-of x k (takes o u m h i late low r) =
         CoreEnds.Made.quiet (CoreEnds.lasts (ends a b name top) (e .sending))
-        (let w = rsm-written a e named lawful (brought e m) in other-text (rsm (w .0)) refl (o .reply) (rw r (w .1)))
+        (let w = rsm-written a e named lawful (brought a e m) in other-text (rsm (w .0)) refl (o .reply) (rw r (w .1)))
     made-of x k (settles o u m h i waits same r) =
         let mac-is : m .mac ≡ mac-under a b name top (e .sending .outgoing) =
         same ∙ ap (λ (w : Text). mac (mac-key (keys-in (e .sending .outgoing))) w)
@@ -82,8 +83,12 @@ module _ (a b name : Text) (top : Top) (l : List Text) where
     made-of x k (issues o q odd fine small low r) =
         let is : Carries a b (ksm (sent a e q)) (o .reply) =
         rw (r, ← to-b) (sent-written a e named lawful q (formed q fine)) in
-        let brings : brought (entry-for name top a) (sent a e q) ≡ outgoing-of q =
-        keys-back a e (entry-for name top a) q (key ∙ sym (top-loaded a name top)) (small .first) (small .second) in
+        let brings : brought b (entry-for name top a) (sent a e q) ≡ outgoing-of q =
+        keys-back a b e (entry-for name top a) q (record {
+          theirs = to-b;
+          ours = partner-loaded a name top named;
+          same-top = key ∙ sym (top-loaded a name top);
+        }) (small .first) (small .second) in
         CoreEnds.Made.built (o .reply) (texts-read (o .reply) _ is)
         (rw (is, carried-at a b name top (ksm (sent a e q)), brings))
         (record {
@@ -129,15 +134,18 @@ module _ (a b name : Text) (top : Top) (l : List Text) where
         (no-rsm body (answer-plain a b name top p) (o .reply) r) refl
     took-of x k (takes o u m h i late low r) =
         let from-a : Carries a b (ksm m) u = subst (λ (w : Text). Carries w b (ksm m) u) to-a i in
-        let brings : brought (entry-for name top a) m ≡ brought e m =
-        brought-by-top (entry-for name top a) e m (top-loaded a name top ∙ sym key) in
-        let c : carried-by a b name top (read u) ≡ key-message (m .ctp) (brought e m) =
+        let a-named = subst (λ (w : Text). is-name w ≡ true) to-a
+        (filled-name (e .identity .bytes) (rules e lawful .identity-filled)) in
+        let brings : brought b (entry-for name top a) m ≡ brought b e m =
+        brought-alike b (entry-for name top a) e m (partner-loaded a name top a-named ∙ sym to-a)
+        (top-loaded a name top ∙ sym key) in
+        let c : carried-by a b name top (read u) ≡ key-message (m .ctp) (brought b e m) =
         rw (from-a, carried-at a b name top (ksm m), brings) in
-        CoreEnds.Took.installed u (m .ctp) (mac-under a b name top (brought e m)) h c (rw c) late
+        CoreEnds.Took.installed u (m .ctp) (mac-under a b name top (brought b e m)) h c (rw c) late
         (risen-below (m .ctp) low ∙ add-one (m .ctp))
         (λ t g.
-        let w = rsm-written b e named lawful (brought e m) in
-        rw (texts-in (o .reply) t g, r, w .1, to-a, answer-at a b name top (rsm (w .0)), rsm-mac (brought e m))) refl
+        let w = rsm-written b e named lawful (brought b e m) in
+        rw (texts-in (o .reply) t g, r, w .1, to-a, answer-at a b name top (rsm (w .0)), rsm-mac (brought b e m))) refl
     took-of x k (settles o u m h i waits same r) =
         CoreEnds.Took.quiet (CoreEnds.keeps (ends a b name top) (e .receiving)) (λ t h. unsaid (o .reply) t r h) refl
     took-of x k (fails o n up r) =

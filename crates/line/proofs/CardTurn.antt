@@ -54,8 +54,8 @@ pub data Event (us : Text) (e : Entry) (Heard : Text → Type 0) : Turn → List
       → Event us e Heard (record { outcome = o; entry = e }) []
   -- a key message is accepted and answered
   takes : (o : Outcome) (t : Text) (m : Ksm) → Heard t → Carries (partner e) us (ksm m) t → e .receiving .expected ≤ m .ctp
-      → m .ctp < limit → o .reply ≡ rsm-text us e (brought e m)
-      → Event us e Heard (record { outcome = o; entry = with-receiving e (accepted (m .ctp) (brought e m)) }) (m .ctp ∷ [])
+      → m .ctp < limit → o .reply ≡ rsm-text us e (brought us e m)
+      → Event us e Heard (record { outcome = o; entry = with-receiving e (accepted (m .ctp) (brought us e m)) }) (m .ctp ∷ [])
   -- an answer confirms
   settles : (o : Outcome) (t : Text) (m : Rsm) → Heard t → Carries (partner e) us (rsm m) t → e .sending .phase ≡ waiting
       → m .mac ≡ mac (mac-key (keys-in (e .sending .outgoing))) (covered t) → o .reply ≡ []
@@ -142,7 +142,7 @@ module _ {us : Text} {e : Entry} {H : Text → Type 0} where
   event-to n l (silent o r) t h = unsaid (o .reply) t r h
   event-to n l (speaks o b p r) t h = (b, rw (texts-in (o .reply) t h) r)
   event-to n l (takes o u m g i a c r) t h =
-      let w = rsm-written us e n l (brought e m) in (rsm (w .0), rw (texts-in (o .reply) t h, r) (w .1))
+      let w = rsm-written us e n l (brought us e m) in (rsm (w .0), rw (texts-in (o .reply) t h, r) (w .1))
   event-to n l (settles o u m g i w c r) t h = unsaid (o .reply) t r h
   event-to n l (fails o m a r) t h = unsaid (o .reply) t r h
   event-to n l (issues o q p f s a r) t h =

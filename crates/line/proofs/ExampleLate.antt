@@ -39,6 +39,7 @@ new-request = record {
   iv = 0;
   dated = 0;
   date = record { digits = ascii "000000000000" };
+  notarized = 1;
 }
 
 abbrev new-keys : KeySet

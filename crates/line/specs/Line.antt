@@ -155,10 +155,10 @@ module _ (a b name : Text) (top : Top) where
   a-to-b body = record { rcv = b; org = a; body = body }
 
   -- the MAC of the answer that a key message of A's calls for: that of the RSM from B to A under the keys that it
-  -- carries, deciphered under the top key offset by its CTP
+  -- carries, plain or notarized, deciphered as B does
   unfoldable pub called-for : Ksm → ℕ
   called-for m =
-      mac (mac-key (keys-in (brought (entry-for name top a) m)))
+      mac (mac-key (keys-in (brought b (entry-for name top a) m)))
       (covered-part (record { rcv = a; org = b; body = rsm-body 0 }))
 
   -- no two of A's key messages to B call for answers with equal MACs
@@ -175,7 +175,7 @@ module _ (a b name : Text) (top : Top) where
     pub message : Ksm
     pub sent : text ∈ s .from-a
     pub reading : read text ≡ some (a-to-b (ksm message))
-    pub carried : brought (entry-for name top a) message ≡ ours .outgoing
+    pub carried : brought b (entry-for name top a) message ≡ ours .outgoing
     pub for-a : Entry
     pub held : entry-of a (s .b) ≡ some for-a
     pub in-step : In-step ours (for-a .receiving) message

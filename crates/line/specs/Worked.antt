@@ -48,6 +48,7 @@ request k l = record {
   iv = 0;
   dated = 0;
   date = record { digits = ascii "000000000000" };
+  notarized = 0;
 }
 
 -- a key with no mark and no name
@@ -76,7 +77,8 @@ from-quay = ascii "CSM(MCL/RSI RCV/MILL ORG/QUAY SVR/KD.IV )"
 abbrev May : List Text → Table → Call → Type 0
 May wrote t c = Allowed key-name pair HARBOR wrote c (run t c .outcome .answer)
 
--- MILL's key messages to HARBOR: the second calls for the same MAC as the first, the third does not
+-- MILL's key messages to HARBOR: the second calls for the same MAC as the first, the third, whose key is
+-- notarized, does not
 abbrev pub first-ksm : Text
 first-ksm =
     ascii "CSM(MCL/KSM RCV/HARBOR ORG/MILL KD/3EB3B72576BBBE83..ONE KD/5601104F2DF94405 CTP/1 MAC/3130 F0C0 )"
@@ -85,7 +87,7 @@ abbrev pub second-ksm : Text
 second-ksm = ascii "CSM(MCL/KSM RCV/HARBOR ORG/MILL KD/91244E2E40DC0C9F KD/8B22C6A850812124 CTP/2 MAC/8535 60F0 )"
 
 abbrev pub third-ksm : Text
-third-ksm = ascii "CSM(MCL/KSM RCV/HARBOR ORG/MILL KD/3C71AB519BB27BBC..TWO CTP/2 MAC/F2A4 9E9B )"
+third-ksm = ascii "CSM(MCL/KSM RCV/HARBOR ORG/MILL NOS/ KD/47FA2C85AEAAD93E..TWO CTP/2 MAC/623F 70B3 )"
 
 pub record Worked : Type 0 where
   -- a message naming HARBOR as originator was written by it

@@ -15,6 +15,7 @@ use Rattle.csm.specs.Fields.{hex-text, field, has-P, contents, KD, IV, EDK, MAC
 use Rattle.csm.specs.Message.{legal-body}
 use Rattle.csm.specs.Covered.{covered-part}
 use Rattle.csm.proofs.TextLaws.{true-within, run-wider, all-weaker}
+use Rattle.csm.proofs.MessageLaws.{flagged-legal}
 use Rattle.csm.proofs.NumberLaws.{hex-run, hex-length}
 use Rattle.csm.proofs.WordTests.{has-P-bit}
 use Rattle.writer.specs.declared.Vector.{Vector}
@@ -91,6 +92,6 @@ pub ksm-body-legal : (rcv org : Text) (k : Ksm) (key : ℕ) → legal-body (ksm-
 unfolding ksm-reading ksm-legal keys-legal kd-legal dated-legal
 ksm-body-legal rcv org k key =
     let t = covered-part (unsealed-ksm rcv org k 0) in
-    rw (iv-legal (k .vector), mac-legal (mac key t) (mac-lt key t))
+    rw (flagged-legal (k .nos), iv-legal (k .vector), mac-legal (mac key t) (mac-lt key t))
     (ordered-ksm (kd-legal (k .first)) (maybe-legal (field KD) (there (k .two) (kd-of (k .second))))
     (maybe-legal (field EDK) (there (k .dated) (k .edk))) (within 1 99_999_999 (k .ctp)))

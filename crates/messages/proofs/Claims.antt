@@ -94,10 +94,11 @@ claims = record {
   esm-of-three = λ rcv org l x c n h e. left (esm-reading rcv org x c) l n 89 e (esm-three rcv org x c h) (omega arith);
   ksm-left = λ rcv org k key l n e.
       let r = ksm-reading rcv org k key in
-      left r l n 232 e (known-short r refl) (omega arith);
+      left r l n 237 e (known-short r refl) (omega arith);
   rsm-mac = λ rcv org key k. sealed-over (unsealed-rsm rcv org) key (λ m. refl) (λ m. refl) k;
   ksm-mac = λ rcv org k key h. sealed-over (unsealed-ksm rcv org k) key (λ m. refl) (λ m. refl) h;
   mill-to-harbor = λ key. refl;
   mill-to-harbor-covered = λ key. refl;
   longest-ksm = λ a b v key. refl;
+  longest-without-nos = λ a b v key. refl;
 }

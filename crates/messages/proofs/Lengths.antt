@@ -76,6 +76,6 @@ pub esm-three : (rcv org : Text) (n : ℕ) (c : Counts) → length (erf .text n)
 esm-three rcv org n c h k =
     esm-within rcv org n c 8 (λ e. omega (arith, length-append (erf .text n) (blank ∷ []))) k
 
-pub known-short : (r : Reading) → known (r .body) ≡ true → legal r ≡ true → length (print r) ≤ 232
+pub known-short : (r : Reading) → known (r .body) ≡ true → legal r ≡ true → length (print r) ≤ 237
 unfolding legal print
 known-short r e k = message-length r e (and-true (message .legal r) (fits (print r)) k .0)

@@ -5,8 +5,8 @@ use Prim.Native.Nat.{ℕ, _%_, _<_}
 use native.Mathlib.Nat.{mod-eq-of-lt}
 use Rattle.octets.specs.Text.{Text, ascii, blank}
 use Rattle.csm.specs.Format.{maybe-print}
-use Rattle.csm.specs.Fields.{decimal, field, RCV, ORG, SVR, KD, IV, EDK, CTP, CTR, ERF}
-use Rattle.csm.specs.Message.{print}
+use Rattle.csm.specs.Fields.{decimal, field, RCV, ORG, SVR, NOS, KD, IV, EDK, CTP, CTR, ERF}
+use Rattle.csm.specs.Message.{print, flagged}
 use Rattle.csm.specs.Covered.{covered-part}
 use Rattle.messages.specs.declared.Counts.{Counts}
 use Rattle.messages.specs.declared.Counts.the-variants.{Without, Both}
@@ -87,8 +87,8 @@ rsm-text rcv org = go (ascii "CSM(MCL/RSM ") (field RCV .print rcv) (field ORG .
     go s r o = simp append-nil
 
 pub ksm-text : (rcv org : Text) (k : Ksm)
-    → ((ascii "CSM(MCL/KSM " ++ (field RCV .print rcv ++ field ORG .print org)) ++ keys-text (k .first) (k .two) (k .second))
-    ++ tail-text k
+    → (((ascii "CSM(MCL/KSM " ++ (field RCV .print rcv ++ field ORG .print org))
+    ++ maybe-print (field NOS) (flagged (k .nos))) ++ keys-text (k .first) (k .two) (k .second)) ++ tail-text k
     ≡ unsealed-text (unsealed-ksm rcv org k)
 unfolding unsealed-text covered-part keys-text tail-text
 ksm-text rcv org k =
@@ -97,11 +97,13 @@ ksm-text rcv org k =
     let v = maybe-print (field IV) (iv-of (k .vector)) in
     let d = maybe-print (field EDK) (there (k .dated) (k .edk)) in
     let n = field CTP .print (k .ctp) in
-    whole (ascii "CSM(MCL/KSM ") (field RCV .print rcv) (field ORG .print org) (f ++ s) (v ++ (d ++ n))
-    ∙ go (ascii "CSM(MCL/KSM " ++ (field RCV .print rcv ++ (field ORG .print org ++ []))) f s v d n
+    go (ascii "CSM(MCL/KSM ") (field RCV .print rcv) (field ORG .print org) (maybe-print (field NOS) (flagged (k .nos)))
+    f s v d n
   where
-    go : (h k l x y z : Text) → h ++ ((k ++ l) ++ (x ++ (y ++ z))) ≡ h ++ (k ++ (l ++ (x ++ (y ++ (z ++ [])))))
-    go h k l x y z = simp (append-assoc, append-nil)
+    go : (s r o m k l x y z : Text)
+        → (((s ++ (r ++ o)) ++ m) ++ (k ++ l)) ++ (x ++ (y ++ z))
+        ≡ (s ++ (r ++ (o ++ []))) ++ (m ++ (k ++ (l ++ (x ++ (y ++ (z ++ []))))))
+    go s r o m k l x y z = simp (append-assoc, append-nil)
 
 -- ---- their MACs are their own, and not part of what they cover
 

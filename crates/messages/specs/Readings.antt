@@ -43,9 +43,10 @@ unfoldable pub esm-reading : Text → Text → ℕ → Counts → Reading
 esm-reading rcv org letters counts =
     addressed rcv org (esm (record { ctp = ctp-of counts; ctr = ctr-of counts; erf = letters; edc = none }))
 
--- KSM: one KD or two, IV, EDK, CTP, MAC
+-- KSM: NOS or none, one KD or two, IV, EDK, CTP, MAC
 abbrev pub unsealed-ksm : Text → Text → Ksm → ℕ → Reading
 unsealed-ksm rcv org k m = addressed rcv org (ksm (record {
+  nos = k .nos;
   kd = kd-of (k .first);
   second = there (k .two) (kd-of (k .second));
   iv = iv-of (k .vector);

@@ -69,8 +69,10 @@ pub fn write_esm(reply: &mut [u8], rcv: &[u8], org: &[u8], letters: u64, counts:
     Written::Length(whole::put_esm(reply, rcv, org, letters, counts))
 }
 
-// What a KSM says: its data key, the second one if there are two, the IV, the date if there is one, and the count.
+// What a KSM says: whether its keys are notarized, its data key, the second one if there are two, the IV, the date if
+// there is one, and the count.
 pub struct Ksm {
+    pub nos: bool,
     pub first: Key,
     pub two: bool,
     pub second: Key,

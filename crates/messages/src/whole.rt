@@ -106,8 +106,9 @@ fn put_covered(reply: &mut [u8], rcv: &[u8], org: &[u8], ksm: Ksm) -> usize
     ensures { λ r. ⌜ Wrote (parts.unsealed-text (readings.unsealed-ksm (now (rcv .entry)) (now (org .entry)) ksm)) (now (reply .entry)) (now (reply .exit)) r ⌝ }
 {
     let a = put_head(reply, b"CSM(MCL/KSM ", rcv, org);
-    let b = a + writer::put_keys(&mut reply[a..], ksm.first, ksm.two, ksm.second);
-    b + put_tail(&mut reply[b..], ksm)
+    let b = a + writer::put_nos(&mut reply[a..], ksm.nos);
+    let c = b + writer::put_keys(&mut reply[b..], ksm.first, ksm.two, ksm.second);
+    c + put_tail(&mut reply[c..], ksm)
 }
 
 // KSM.

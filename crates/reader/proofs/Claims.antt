@@ -2,12 +2,13 @@
 use mathlib.Core.Path.{_≡_, refl, ap, _∙_, subst}
 use mathlib.Core.List.{[], _∷_}
 use mathlib.Core.Option.{Option, none, some}
+use Prim.Native.Nat.{ℕ}
 use native.Mathlib.Omega.{arith}
 use Rattle.octets.specs.Text.{Text}
 use Rattle.octets.specs.Part.{part}
-use Rattle.csm.specs.Fields.{named, kd, KD}
+use Rattle.csm.specs.Fields.{named, kd, NOS, KD}
 use Rattle.csm.specs.Fields as csm
-use Rattle.csm.specs.Message.{Ksm, ksm, Reading, print-body, read}
+use Rattle.csm.specs.Message.{Ksm, ksm, flagged, Reading, print-body, read}
 use Rattle.csm.specs.Message.{rsi-row, ksm-row, rsm-row, esm-row, rsi-values, ksm-values, rsm-values, esm-values}
 use Rattle.csm.specs.Covered.{mac-of}
 use Rattle.csm.proofs.TextLaws.{some-inj, none-some}
@@ -26,19 +27,23 @@ ksm-parts : (t : Text) (q : Reading) (r : Ksm) → read t ≡ some q → q .body
 ksm-parts t q r e b =
     let p = body-laid t q e ksm-row (ksm-values r) (ap print-body b) .parts in
     record {
-      first = kd-parts t (span-at KD (body-place q) (some (r .kd)) .at) (r .kd) (p .0);
-      second = λ k j. second (r .second) k j (p .1 .0);
-      iv = p .1 .1 .0 ∙ named-text (r .iv);
-      edk = p .1 .1 .1 .0 ∙ named-text (r .edk);
-      ctp = p .1 .1 .1 .1 .0;
-      mac = p .1 .1 .1 .1 .1 .0;
+      first = kd-parts t (span-at KD start (some (r .kd)) .at) (r .kd) (p .1 .0);
+      second = λ k j. second (r .second) k j (p .1 .1 .0);
+      iv = p .1 .1 .1 .0 ∙ named-text (r .iv);
+      edk = p .1 .1 .1 .1 .0 ∙ named-text (r .edk);
+      ctp = p .1 .1 .1 .1 .1 .0;
+      mac = p .1 .1 .1 .1 .1 .1 .0;
     }
   where
-    second : (o : Option csm.Kd) (k : csm.Kd) → o ≡ some k → let m = next-at KD (body-place q) (some (r .kd)) in
+    -- where its first KD starts
+    start : ℕ
+    start = next-at NOS (body-place q) (flagged (r .nos))
+
+    second : (o : Option csm.Kd) (k : csm.Kd) → o ≡ some k → let m = next-at KD start (some (r .kd)) in
         part t (span-at KD m o) ≡ text-or-empty (kd .text) o → Kd-parts t (kd-at (span-at KD m o .at) o) k
     second none k j p = absurd (none-some k j)
     second (some i) k j p =
-        let m = next-at KD (body-place q) (some (r .kd)) in
+        let m = next-at KD start (some (r .kd)) in
         subst (λ (k : csm.Kd). Kd-parts t (kd-of (span-at KD m (some i) .at) i) k) (some-inj j)
         (kd-parts t (span-at KD m (some i) .at) i p)
 

@@ -9,7 +9,7 @@ use lib.ListN.{drop}
 use Rattle.octets.specs.Text.{Text, ascii, blank, same}
 use Rattle.csm.specs.Format.{Format, bind, just, as-form, such-that, at-end, whole}
 use Rattle.csm.specs.Fields.{Field, Contents, contents, tag, field}
-use Rattle.csm.specs.Fields.{MCL, RCV, ORG, SVR, KD, IV, EDK, CTP, CTR, ERF, MAC, EDC}
+use Rattle.csm.specs.Fields.{MCL, RCV, ORG, SVR, NOS, KD, IV, EDK, CTP, CTR, ERF, MAC, EDC}
 use Rattle.csm.specs.Message.{Row, one, opt, Values, closed}
 use Rattle.csm.proofs.FieldLaws.{field-lawful}
 use Rattle.fields.specs.Seen.{taken, inner}
@@ -88,6 +88,7 @@ contents-inner MCL a = refl
 contents-inner RCV a = refl
 contents-inner ORG a = refl
 contents-inner SVR a = refl
+contents-inner NOS a = refl
 contents-inner KD a = refl
 contents-inner IV a = refl
 contents-inner EDK a = refl

@@ -1,19 +1,25 @@
 -- What each class is read as, from what the code has of its fields.
 use mathlib.Core.Path.{_≡_, refl, ap, _∙_}
-use mathlib.Core.Bool.{Bool, true, false, cond, _&&_}
+use mathlib.Core.Bool.{Bool, true, false, cond, _&&_, and-false}
+use mathlib.Core.List.{[], _∷_}
 use mathlib.Core.Option.{Option, none, some}
 use Prim.Native.Nat.{ℕ}
-use lib.ListN.{drop}
-use Rattle.octets.specs.Text.{Text, ascii, same}
+use native.Mathlib.Omega.{arith}
+use lib.Dec.{leb}
+use lib.ListN.{length, drop}
+use borrow.Author.Tests.{lt-leb}
+use Rattle.octets.specs.Text.{Text, ascii, blank, same, is-run}
 use Rattle.octets.specs.Part.{found}
-use Rattle.csm.specs.Format.{as-form}
-use Rattle.csm.specs.Fields.{SVR, EDC, ERF, CTP, CTR, MAC, IV, EDK, KD, tag, svr, erf, count}
+use Rattle.csm.specs.Format.{bind, after, until, value, plain, upto, pre, as-form}
+use Rattle.csm.specs.Fields.{SVR, EDC, ERF, CTP, CTR, MAC, IV, EDK, NOS, KD, tag, field, nothing, svr, erf, count}
 use Rattle.csm.specs.Fields as csm
 use Rattle.csm.specs.Message as csm-message
 use Rattle.csm.specs.Message.{closed, rsi, ksm, rsm, esm, counts-with-P}
 use Rattle.csm.specs.Message.{rsi-row, ksm-row, rsm-row, esm-row, rsi-record, rsi-values, ksm-record, ksm-values}
 use Rattle.csm.specs.Message.{rsm-record, rsm-values, esm-record, esm-values}
-use Rattle.fields.specs.Seen.{itself, check-text, number-or-zero, number-at, key-at, place-of}
+use Rattle.csm.proofs.WordTests.{plain-value}
+use Rattle.csm.proofs.MessageLaws.{flagged-found}
+use Rattle.fields.specs.Seen.{taken, itself, inner, check-text, number-or-zero, number-at, key-at, place-of}
 use Rattle.fields.specs.declared.Place.{Place}
 use Rattle.fields.specs.declared.NumberField.{NumberField}
 use Rattle.fields.specs.declared.KeyField.{KeyField}
@@ -30,8 +36,36 @@ use Rattle.reader.proofs.RowLaws.{map, done, need, passing, row-walk, f
 abbrev pub ended : Text → ℕ → Bool
 ended s at = same (drop at s) (ascii ")")
 
+-- what a run of no characters has read behind `NOS/`, and what NOS has, stand at one place
+abbrev pub One-place : ℕ → Option (Text × Text) → Option (Unit {0} × Text) → Type 0
+One-place at o p = place-of itself at (tag NOS) (taken o) ≡ place-of (inner NOS) at (tag NOS) (taken p)
+
+-- for both have empty contents
+pub empty-run : (at : ℕ) (u : Text)
+    → One-place at (pre (tag NOS) (upto blank (plain (is-run 0 0 0))) .read u) (field NOS .read u)
+empty-run at u = behind (after (tag NOS) u)
+  where
+    word : (w t : Text)
+        → One-place at (bind (value (plain (is-run 0 0 0)) w) (λ a. some (a, t))) (bind (value nothing w) (λ a. some (a, t)))
+    word [] t = refl
+    word (x ∷ w) t =
+        let more : leb (length (x ∷ w)) 0 ≡ false = lt-leb (length (x ∷ w)) 0 (omega arith) in
+        let no-run : is-run 0 0 0 (x ∷ w) ≡ false = rw more (simp and-false) in
+        rw (plain-value (is-run 0 0 0) (x ∷ w), no-run)
+
+    piece : (o : Option (Text × Text))
+        → One-place at (bind o (λ p. bind (value (plain (is-run 0 0 0)) (p .0)) (λ a. some (a, p .1))))
+        (bind o (λ p. bind (value nothing (p .0)) (λ a. some (a, p .1))))
+    piece none = refl
+    piece (some (w, t)) = word w t
+
+    behind : (o : Option Text)
+        → One-place at (bind o (upto blank (plain (is-run 0 0 0)) .read)) (bind o (upto blank nothing .read))
+    behind none = refl
+    behind (some v) = piece (until blank v)
+
 module _ (h : Head) (s : Text) where
-  -- SVR, CTP or CTR, ERF, MAC or EDC, KD, IV, EDK
+  -- SVR, CTP or CTR, ERF, MAC or EDC, NOS, KD, IV, EDK
   abbrev pub svr-at : ℕ → NumberField
   svr-at at = number-at (svr .text) at (tag SVR) (taken-at SVR s at)
 
@@ -49,6 +83,9 @@ module _ (h : Head) (s : Text) where
 
   abbrev pub edc-at : ℕ → NumberField
   edc-at at = number-at check-text at (tag EDC) (taken-at EDC s at)
+
+  abbrev pub nos-at : ℕ → Place
+  nos-at at = place-of (inner NOS) at (tag NOS) (taken-at NOS s at)
 
   abbrev pub kd-field-at : ℕ → KeyField
   kd-field-at at = key-at at (taken-at KD s at)
@@ -171,10 +208,11 @@ module _ (h : Head) (s : Text) where
 
   -- ---- KSM
 
-  abbrev pub ksm-join : KeyField → KeyField → Place → Place → NumberField → NumberField → Message
-  ksm-join k j i d c m =
+  abbrev pub ksm-join : Place → KeyField → KeyField → Place → Place → NumberField → NumberField → Message
+  ksm-join v k j i d c m =
       message.Ksm (record {
         head = h;
+        nos = v .there;
         first = k .kd;
         two = j .place .there;
         second = j .kd;
@@ -184,31 +222,34 @@ module _ (h : Head) (s : Text) where
         mac = numeral-of m;
       })
 
-  ksm-out : (at : ℕ) (k j : Option csm.Kd) (i d : Option Text) (c m : Option ℕ) (b : Bool)
-      → let n₂ = next-at KD at k in let n₃ = next-at KD n₂ j in let n₄ = next-at IV n₃ i in
+  ksm-out : (at : ℕ) (v : Option (Unit {0})) (k j : Option csm.Kd) (i d : Option Text) (c m : Option ℕ) (b : Bool)
+      → let n₁ = next-at NOS at v in let n₂ = next-at KD n₁ k in let n₃ = next-at KD n₂ j in let n₄ = next-at IV n₃ i in
       let n₅ = next-at EDK n₄ d in let n₆ = next-at CTP n₅ c in
-      seen-as h at ksm (map ksm-record (need k (map (λ b. (j, b)) (map (λ b. (i, b)) (map (λ b. (d, b))
-      (need c (need m (done b))))))))
+      seen-as h at ksm (map ksm-record (map (λ b. (v, b)) (need k (map (λ b. (j, b)) (map (λ b. (i, b))
+      (map (λ b. (d, b)) (need c (need m (done b)))))))))
       ≡ cond (found k && (found c && (found m && b)))
-      (ksm-join (key-at at k) (key-at n₂ j) (place-of itself n₃ (tag IV) i) (place-of itself n₄ (tag EDK) d)
+      (ksm-join (place-of (inner NOS) at (tag NOS) v) (key-at n₁ k) (key-at n₂ j) (place-of itself n₃ (tag IV) i)
+      (place-of itself n₄ (tag EDK) d)
       (number-at (count .text) n₅ (tag CTP) c) (number-at check-text n₆ (tag MAC) m))
       message.Nothing
-  ksm-out at none j i d c m b = refl
-  ksm-out at (some k) j i d none m b = refl
-  ksm-out at (some k) j i d (some c) none b = refl
-  ksm-out at (some k) j i d (some c) (some m) false = refl
-  ksm-out at (some k) none i d (some c) (some m) true = refl
-  ksm-out at (some k) (some j) i d (some c) (some m) true = refl
+  ksm-out at v none j i d c m b = refl
+  ksm-out at v (some k) j i d none m b = refl
+  ksm-out at v (some k) j i d (some c) none b = refl
+  ksm-out at v (some k) j i d (some c) (some m) false = refl
+  ksm-out at v (some k) none i d (some c) (some m) true = rw (flagged-found v)
+  ksm-out at v (some k) (some j) i d (some c) (some m) true = rw (flagged-found v)
 
-  pub ksm-step : (at : ℕ) {k j : KeyField} {i d : Place} {c m : NumberField} → k ≡ kd-field-at at
-      → j ≡ kd-field-at (k .place .next) → i ≡ iv-at (j .place .next) → d ≡ edk-at (i .next) → c ≡ ctp-at (d .next)
+  pub ksm-step : (at : ℕ) {v : Place} {k j : KeyField} {i d : Place} {c m : NumberField} → v ≡ nos-at at
+      → k ≡ kd-field-at (v .next) → j ≡ kd-field-at (k .place .next) → i ≡ iv-at (j .place .next) → d ≡ edk-at (i .next) → c ≡ ctp-at (d .next)
       → m ≡ mac-at (c .place .next)
       → (b : Bool) → k .place .there && (c .place .there && (m .place .there && ended s (m .place .next))) ≡ b
-      → ksm-body h at (drop at s) ≡ cond b (ksm-join k j i d c m) message.Nothing
+      → ksm-body h at (drop at s) ≡ cond b (ksm-join v k j i d c m) message.Nothing
   unfolding ksm-body
-  ksm-step at i j k l m n b q =
-      let o₁ = taken-at KD s at in
-      let n₂ = next-at KD at o₁ in
+  ksm-step at v i j k l m n b q =
+      let o₀ = taken-at NOS s at in
+      let n₁ = next-at NOS at o₀ in
+      let o₁ = taken-at KD s n₁ in
+      let n₂ = next-at KD n₁ o₁ in
       let o₂ = taken-at KD s n₂ in
       let n₃ = next-at KD n₂ o₂ in
       let o₃ = taken-at IV s n₃ in
@@ -218,7 +259,7 @@ module _ (h : Head) (s : Text) where
       let o₅ = taken-at CTP s n₅ in
       let n₆ = next-at CTP n₅ o₅ in
       let o₆ = taken-at MAC s n₆ in
-      rw (← q, n, m, l, k, j, i)
+      rw (← q, n, m, l, k, j, i, v)
       (ap (seen-as h at ksm)
       (form-whole ksm-record ksm-values (closed ksm-row) (drop at s) ∙ ap (map ksm-record) (row-walk ksm-row s at))
-      ∙ ksm-out at o₁ o₂ o₃ o₄ o₅ o₆ (ended s (next-at MAC n₆ o₆)))
+      ∙ ksm-out at o₀ o₁ o₂ o₃ o₄ o₅ o₆ (ended s (next-at MAC n₆ o₆)))

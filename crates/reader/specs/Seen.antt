@@ -75,10 +75,11 @@ rsi-with h r (svr, (edc, u)) = record { head = h; service = r .svr; svr = svr; e
 abbrev pub rsi-seen : Head → ℕ → csm-message.Rsi → Rsi
 rsi-seen h at r = rsi-with h r (spans rsi-row at (rsi-values r))
 
--- a KSM: its KDs, IV, EDK, its count and its MAC
+-- a KSM: whether NOS is there, its KDs, IV, EDK, its count and its MAC
 abbrev pub ksm-with : Head → csm-message.Ksm → Spans ksm-row → Ksm
-ksm-with h r (first, (second, (iv, (edk, (ctp, (mac, u)))))) = record {
+ksm-with h r (nos, (first, (second, (iv, (edk, (ctp, (mac, u))))))) = record {
   head = h;
+  nos = r .nos;
   first = kd-of (first .at) (r .kd);
   two = found (r .second);
   second = kd-at (second .at) (r .second);

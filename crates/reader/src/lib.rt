@@ -38,9 +38,11 @@ pub struct Rsi {
     pub edc: Optional,
 }
 
-// A KSM: its KDs, the second zero where there is none; where IV and EDK stand, nowhere where there is none; CTP and MAC.
+// A KSM: whether NOS stands there: its keys are notarized; its KDs, the second zero where there is none; where IV and EDK
+// stand, nowhere where there is none; CTP and MAC.
 pub struct Ksm {
     pub head: Head,
+    pub nos: bool,
     pub first: Kd,
     pub two: bool,
     pub second: Kd,

@@ -107,7 +107,6 @@ fn ksm_option(text: &[u8], at: usize) -> bool
     any = either(octets::starts(text, at, b"KKU/"), any);
     any = either(octets::starts(text, at, b"*KK/"), any);
     any = either(octets::starts(text, at, b"KK/"), any);
-    any = either(octets::starts(text, at, b"NOS/"), any);
     either(octets::starts(text, at, b"IDC/"), any)
 }
 

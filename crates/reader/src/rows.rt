@@ -127,11 +127,12 @@ pub fn esm_at(text: &[u8], at: usize, head: Head) -> Message
     Message::Nothing
 }
 
-// A KSM's fields after its head: a KD, an optional second, IV and EDK, both optional, CTP and MAC.
+// A KSM's fields after its head: NOS or not, a KD, an optional second, IV and EDK, both optional, CTP and MAC.
 pub fn ksm_at(text: &[u8], at: usize, head: Head) -> Message
     ensures { λ r. ⌜ r ≡ stages.ksm-body head at (drop at (now (text .entry))) ⌝ }
 {
-    let one = fields::key_field(text, at);
+    let nos = fields::run_field(text, at, b"NOS/", 0, 0, 0);
+    let one = fields::key_field(text, nos.next);
     let kd = one.place;
     let two = fields::key_field(text, kd.next);
     let other = two.place;
@@ -149,6 +150,7 @@ pub fn ksm_at(text: &[u8], at: usize, head: Head) -> Message
         let edk = edk.span;
         return Message::Ksm(Ksm {
             head,
+            nos: nos.there,
             first,
             two: other.there,
             second,

@@ -43,19 +43,19 @@ with-length n r = record {
 
 module _ (own : Text) (e : Entry) (m : reader.Ksm) (t : Text) where
   -- I or K: the letter that the stage refuses with
-  pub stage-unopened : (o : Opened) (n x : ℕ) → o ≡ opened e (ksm-in m t) → o ≡ opening.Error n → x ≡ opened-letters o
+  pub stage-unopened : (o : Opened) (n x : ℕ) → o ≡ opened own e (ksm-in m t) → o ≡ opening.Error n → x ≡ opened-letters o
       → Unopened own e t (ksm-in m t) x
   stage-unopened o n x s r q =
       subst (λ (l : ℕ). Unopened own e t (ksm-in m t) l) (sym (q ∙ ap opened-letters r))
       (unopened own e t (ksm-in m t) n (sym s ∙ r))
 
   -- the set that the keys form is judged
-  pub stage-opened : (o : Opened) (a b : ℕ) (set : KeySet) → o ≡ opened e (ksm-in m t) → o ≡ opening.Keys a b
+  pub stage-opened : (o : Opened) (a b : ℕ) (set : KeySet) → o ≡ opened own e (ksm-in m t) → o ≡ opening.Keys a b
       → set ≡ named-keys a b (ksm-in m t)
       → steps.judged own e t (ksm-in m t) set ≡ receive-ksm own e t (ksm-in m t)
   stage-opened o a b set s r q =
       let p = opens own e t (ksm-in m t) a b (sym s ∙ r) in
-      let k = q ∙ brought-same e (ksm-in m t) a b (p .first) (p .second) in
+      let k = q ∙ brought-same own e (ksm-in m t) a b (p .first) (p .second) in
       ap (λ (u : KeySet). steps.judged own e t (ksm-in m t) u) k ∙ p .turn
 
   -- F, M or P: the letters, and the counts with P

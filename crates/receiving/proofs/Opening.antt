@@ -6,20 +6,20 @@ use Prim.Native.Nat.{ℕ}
 use Rattle.octets.specs.Text.{Text}
 use Rattle.octets.specs.Part.{bare, part}
 use Rattle.keying.specs.Parity.{odd}
-use Rattle.keying.specs.Keys.{working, unseal}
+use Rattle.keying.specs.Keys.{unseal}
 use Rattle.csm.specs.Fields.{Kd, nonempty, named}
 use Rattle.csm.specs.Message.{Ksm}
 use Rattle.fields.specs.declared.Kd as fields
 use Rattle.reader.specs.declared.Ksm as reader
 use Rattle.partner.specs.declared.Entry.{Entry}
 use Rattle.partner.specs.declared.DataKey.{DataKey}
-use Rattle.partner.specs.Entry.{name-of, top-of, one-key, two-keys}
+use Rattle.partner.specs.Entry.{name-of, one-key, two-keys}
 use Rattle.calls.specs.Words.{if_then_else_, any}
 use Rattle.calls.specs.Outcome.{I, K}
 use Rattle.calls.specs.Receive.{kds, foreign, deciphered, uneven, brought}
 use Rattle.receiving.specs.declared.keys.Opened.the-variants.{Keys, Error}
 use Rattle.receiving.specs.Texts.{kd-in, ksm-in}
-use Rattle.receiving.specs.Stages.{name-in-force, foreign-name, any-foreign, second-key, opened, named-keys}
+use Rattle.receiving.specs.Stages.{name-in-force, foreign-name, any-foreign, working-key, second-key, opened, named-keys}
 use Rattle.receiving.proofs.Missing.{named-nonempty}
 
 -- I of a KD with that IDK2
@@ -47,29 +47,29 @@ any-two f m k h s = rw (h, s) (last (f k))
     last true = refl
     last false = refl
 
-module _ (e : Entry) (m : Ksm) where
+module _ (own : Text) (e : Entry) (m : Ksm) where
   -- I
-  pub opened-foreign : any-foreign e m ≡ true → Error I ≡ opened e m
+  pub opened-foreign : any-foreign e m ≡ true → Error I ≡ opened own e m
   unfolding opened if_then_else_
   opened-foreign h = rw h
 
   -- K
-  pub opened-uneven : any-foreign e m ≡ false → any (uneven e m) (kds m) ≡ true → Error K ≡ opened e m
+  pub opened-uneven : any-foreign e m ≡ false → any (uneven own e m) (kds m) ≡ true → Error K ≡ opened own e m
   unfolding opened if_then_else_
   opened-uneven h u = rw (h, u)
 
   -- the keys
-  pub opened-keys : any-foreign e m ≡ false → any (uneven e m) (kds m) ≡ false
-      → Keys (deciphered e m (m .kd)) (second-key e m) ≡ opened e m
+  pub opened-keys : any-foreign e m ≡ false → any (uneven own e m) (kds m) ≡ false
+      → Keys (deciphered own e m (m .kd)) (second-key own e m) ≡ opened own e m
   unfolding opened if_then_else_
   opened-keys h u = rw (h, u)
 
   -- the keys that were handed on form the set that the message brings
-  pub brought-same : (a b : ℕ) → a ≡ deciphered e m (m .kd) → b ≡ second-key e m → named-keys a b m ≡ brought e m
+  pub brought-same : (a b : ℕ) → a ≡ deciphered own e m (m .kd) → b ≡ second-key own e m → named-keys a b m ≡ brought own e m
   unfolding named-keys brought
   brought-same a b p q = go (m .second) refl
     where
-      go : (o : Option Kd) → m .second ≡ o → named-keys a b m ≡ brought e m
+      go : (o : Option Kd) → m .second ≡ o → named-keys a b m ≡ brought own e m
       go none s = rw (p, q, s)
       go (some k) s = rw (p, q, s)
 
@@ -113,54 +113,55 @@ module _ (e : Entry) (m : reader.Ksm) (t : Text) where
       k ∙ sym (any-two (foreign e) (ksm-in m t) other (first-foreign ∙ h) (second-some s)
       ∙ foreign-same e other (part t (m .second .idk2)) refl)
 
+module _ (own : Text) (e : Entry) (m : reader.Ksm) (t : Text) where
   -- a KD's key deciphered; K of it
   abbrev pub plain : fields.Kd → ℕ
-  plain k = unseal (working (top-of (e .top)) (m .ctp .value)) (k .key)
+  plain k = unseal (working-key own e m) (k .key)
 
   abbrev pub uneven-key : fields.Kd → Bool
   uneven-key k = k .p && not (odd (plain k))
 
   -- K of the first KD and of the second
-  first-uneven : uneven e (ksm-in m t) (ksm-in m t .kd) ≡ uneven-key (m .first)
+  first-uneven : uneven own e (ksm-in m t) (ksm-in m t .kd) ≡ uneven-key (m .first)
   unfolding uneven ksm-in
   first-uneven = refl
 
-  second-uneven : uneven e (ksm-in m t) (kd-in (m .second) t)
+  second-uneven : uneven own e (ksm-in m t) (kd-in (m .second) t)
       ≡ uneven-key (m .second)
   unfolding uneven ksm-in
   second-uneven = refl
 
   module _ (ours : any-foreign e (ksm-in m t) ≡ false) where
-    pub open-first : uneven-key (m .first) ≡ true → Error K ≡ opened e (ksm-in m t)
+    pub open-first : uneven-key (m .first) ≡ true → Error K ≡ opened own e (ksm-in m t)
     open-first u =
-        opened-uneven e (ksm-in m t) ours (any-first (uneven e (ksm-in m t)) (ksm-in m t) (first-uneven ∙ u))
+        opened-uneven own e (ksm-in m t) ours (any-first (uneven own e (ksm-in m t)) (ksm-in m t) (first-uneven ∙ u))
 
-    pub open-one : uneven-key (m .first) ≡ false → m .two ≡ false → Keys (plain (m .first)) 0 ≡ opened e (ksm-in m t)
+    pub open-one : uneven-key (m .first) ≡ false → m .two ≡ false → Keys (plain (m .first)) 0 ≡ opened own e (ksm-in m t)
     unfolding ksm-in
     open-one u s =
-        let k = opened-keys e (ksm-in m t) ours
-        (any-one (uneven e (ksm-in m t)) (ksm-in m t) (first-uneven ∙ u) (second-none s)) in
+        let k = opened-keys own e (ksm-in m t) ours
+        (any-one (uneven own e (ksm-in m t)) (ksm-in m t) (first-uneven ∙ u) (second-none e m t s)) in
         go ∙ k
       where
-        go : Keys (plain (m .first)) 0 ≡ Keys (deciphered e (ksm-in m t) (ksm-in m t .kd)) (second-key e (ksm-in m t))
+        go : Keys (plain (m .first)) 0 ≡ Keys (deciphered own e (ksm-in m t) (ksm-in m t .kd)) (second-key own e (ksm-in m t))
         go = rw s
 
     pub open-second : uneven-key (m .first) ≡ false → m .two ≡ true → uneven-key (m .second) ≡ true
-        → Error K ≡ opened e (ksm-in m t)
+        → Error K ≡ opened own e (ksm-in m t)
     open-second u s v =
-        opened-uneven e (ksm-in m t) ours
-        (any-two (uneven e (ksm-in m t)) (ksm-in m t) _ (first-uneven ∙ u) (second-some s) ∙ second-uneven ∙ v)
+        opened-uneven own e (ksm-in m t) ours
+        (any-two (uneven own e (ksm-in m t)) (ksm-in m t) _ (first-uneven ∙ u) (second-some e m t s) ∙ second-uneven ∙ v)
 
     pub open-two : uneven-key (m .first) ≡ false → m .two ≡ true → uneven-key (m .second) ≡ false
-        → Keys (plain (m .first)) (plain (m .second)) ≡ opened e (ksm-in m t)
+        → Keys (plain (m .first)) (plain (m .second)) ≡ opened own e (ksm-in m t)
     unfolding ksm-in
     open-two u s v =
-        let k = opened-keys e (ksm-in m t) ours
-        (any-two (uneven e (ksm-in m t)) (ksm-in m t) _ (first-uneven ∙ u) (second-some s) ∙ second-uneven ∙ v) in
+        let k = opened-keys own e (ksm-in m t) ours
+        (any-two (uneven own e (ksm-in m t)) (ksm-in m t) _ (first-uneven ∙ u) (second-some e m t s) ∙ second-uneven ∙ v) in
         go ∙ k
       where
         go : Keys (plain (m .first)) (plain (m .second))
-            ≡ Keys (deciphered e (ksm-in m t) (ksm-in m t .kd)) (second-key e (ksm-in m t))
+            ≡ Keys (deciphered own e (ksm-in m t) (ksm-in m t .kd)) (second-key own e (ksm-in m t))
         go = rw s
 
 -- the set of one key and of two

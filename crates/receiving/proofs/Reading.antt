@@ -14,8 +14,8 @@ use Rattle.octets.specs.declared.Span.{Span}
 use Rattle.octets.proofs.Writing.{over-full}
 use Rattle.octets.proofs.Comparing.{both as and-true}
 use Rattle.csm.specs.Format.{maybe-legal}
-use Rattle.csm.specs.Fields.{Kd, kd, hex, named, nonempty, legal-name, field, KD, IV, EDK, CTP}
-use Rattle.csm.specs.Message.{Reading, Ksm, ksm, rsm, esm, legal-body, read}
+use Rattle.csm.specs.Fields.{Kd, kd, hex, named, nonempty, legal-name, field, NOS, KD, IV, EDK, CTP}
+use Rattle.csm.specs.Message.{Reading, Ksm, flagged, ksm, rsm, esm, legal-body, read}
 use Rattle.csm.specs.Covered.{mac-of}
 use Rattle.csm.proofs.TextLaws.{within-true}
 use Rattle.csm.proofs.MessageLaws.{read-back, legal-parts}
@@ -61,7 +61,8 @@ record Fields (m : Ksm) : Type 0 where
 -- each field of a legal KSM is legal
 legal-fields : (m : Ksm) → legal-body (ksm m) ≡ true → Fields m
 legal-fields m h =
-    let a = and-true (kd .legal (m .kd)) _ h in
+    let n = and-true (maybe-legal (field NOS) (flagged (m .nos))) _ h in
+    let a = and-true (kd .legal (m .kd)) _ (n .1) in
     let b = and-true (maybe-legal (field KD) (m .second)) _ (a .1) in
     let c = and-true (maybe-legal (field IV) (m .iv)) _ (b .1) in
     let d = and-true (maybe-legal (field EDK) (m .edk)) _ (c .1) in
@@ -90,10 +91,10 @@ unfolding ksm-in
 ksm-same t q k h p =
     let f = legal-fields k h in
     let one = kd-same t (ksm-of q k .first) (k .kd) (f .first) refl refl (p .first) in
-    let two = other (span-at KD (next-at KD (body-place q) (some (k .kd))) (k .second) .at) (k .second) (f .second) (p .second) in
+    let two = other (span-at KD (next-at KD (next-at NOS (body-place q) (flagged (k .nos))) (some (k .kd))) (k .second) .at) (k .second) (f .second) (p .second) in
     let vector = ap nonempty (p .iv) ∙ iv-back (k .iv) (f .iv) in
     let date = ap nonempty (p .edk) ∙ edk-back (k .edk) (f .edk) in
-    λ x. record { kd = one x; second = two x; iv = vector x; edk = date x; ctp = k .ctp; mac = k .mac }
+    λ x. record { nos = k .nos; kd = one x; second = two x; iv = vector x; edk = date x; ctp = k .ctp; mac = k .mac }
   where
     other : (at : ℕ) (o : Option Kd) → maybe-legal (field KD) o ≡ true
         → ((l : Kd) → o ≡ some l → Kd-parts t (kd-at at o) l)

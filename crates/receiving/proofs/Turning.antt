@@ -40,13 +40,13 @@ module _ (own : Text) (e : Entry) (text : Text) (m : Ksm) where
     pub turn : error own e n none ≡ receive-ksm own e text m
 
   -- where the stage refuses, so do the steps
-  pub unopened : (n : ℕ) → opened e m ≡ opening.Error n → Unopened n
+  pub unopened : (n : ℕ) → opened own e m ≡ opening.Error n → Unopened n
   unfolding opened receive-ksm if_then_else_
-  unopened n h = go (any-foreign e m) (any (uneven e m) (kds m)) refl refl h
+  unopened n h = go (any-foreign e m) (any (uneven own e m) (kds m)) refl refl h
     where
-      go : (a b : Bool) → any-foreign e m ≡ a → any (uneven e m) (kds m) ≡ b
+      go : (a b : Bool) → any-foreign e m ≡ a → any (uneven own e m) (kds m) ≡ b
           → (if a then opening.Error I else if b then opening.Error K else
-          opening.Keys (deciphered e m (m .kd)) (second-key e m))
+          opening.Keys (deciphered own e m (m .kd)) (second-key own e m))
           ≡ opening.Error n
           → Unopened n
       go true b p q h = let k : I ≡ n = cc in record {
@@ -61,18 +61,18 @@ module _ (own : Text) (e : Entry) (text : Text) (m : Ksm) where
 
   -- the keys are handed on
   pub record Opens (a b : ℕ) : Type 0 where
-    pub first : a ≡ deciphered e m (m .kd)
-    pub second : b ≡ second-key e m
-    pub turn : steps.judged own e text m (brought e m) ≡ receive-ksm own e text m
+    pub first : a ≡ deciphered own e m (m .kd)
+    pub second : b ≡ second-key own e m
+    pub turn : steps.judged own e text m (brought own e m) ≡ receive-ksm own e text m
 
   -- where it hands keys on, the steps judge them
-  pub opens : (a b : ℕ) → opened e m ≡ opening.Keys a b → Opens a b
+  pub opens : (a b : ℕ) → opened own e m ≡ opening.Keys a b → Opens a b
   unfolding opened receive-ksm if_then_else_
-  opens a b h = go (any-foreign e m) (any (uneven e m) (kds m)) refl refl h
+  opens a b h = go (any-foreign e m) (any (uneven own e m) (kds m)) refl refl h
     where
-      go : (x y : Bool) → any-foreign e m ≡ x → any (uneven e m) (kds m) ≡ y
+      go : (x y : Bool) → any-foreign e m ≡ x → any (uneven own e m) (kds m) ≡ y
           → (if x then opening.Error I else if y then opening.Error K else
-          opening.Keys (deciphered e m (m .kd)) (second-key e m))
+          opening.Keys (deciphered own e m (m .kd)) (second-key own e m))
           ≡ opening.Keys a b
           → Opens a b
       go true y p q h = never cc

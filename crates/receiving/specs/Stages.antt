@@ -8,18 +8,22 @@ use lib.Dec.{eqb}
 use lib.ListN.{length}
 use Rattle.octets.specs.Text.{Text, same}
 use Rattle.octets.specs.Number.{copies}
+use Rattle.octets.specs.Part.{bare}
 use Rattle.octets.specs.Wrote.{over}
+use Rattle.keying.specs.declared.Top.{Top}
+use Rattle.keying.specs.Working.{working}
 use Rattle.keying.specs.Mac.{mac-key, mac}
 use Rattle.keying.specs.Date.{is-date}
 use Rattle.csm.specs.Fields.{nonempty, named}
 use Rattle.csm.specs.Message.{Ksm}
 use Rattle.csm.specs.Covered.{covered}
+use Rattle.reader.specs.declared.Ksm as reader
 use Rattle.messages.specs.declared.Counts.{Counts}
 use Rattle.messages.specs.declared.Counts.the-variants.{Without, Both}
 use Rattle.partner.specs.declared.KeySet.{KeySet}
 use Rattle.partner.specs.declared.Sending.{Sending}
 use Rattle.partner.specs.declared.Entry.{Entry}
-use Rattle.partner.specs.Entry.{name-of, one-key, two-keys}
+use Rattle.partner.specs.Entry.{name-of, top-of, one-key, two-keys}
 use Rattle.partner.specs.Changes.{given-up, failed}
 use Rattle.calls.specs.declared.Date.{Date}
 use Rattle.calls.specs.Words.{if_then_else_, some-has, any}
@@ -46,16 +50,20 @@ foreign-name idk2 name = not (same (name-in-force idk2 name) name)
 abbrev pub any-foreign : Entry → Ksm → Bool
 any-foreign e m = any (foreign e) (kds m)
 
+-- the working key of what was read
+abbrev pub working-key : Text → Entry → reader.Ksm → Top
+working-key own e m = working (m .nos) (bare (e .identity .bytes)) own (top-of (e .top)) (m .ctp .value)
+
 -- the second key, or zero where there is none
-abbrev pub second-key : Entry → Ksm → ℕ
-second-key e m = elim (m .second) [ none ↦ 0 | some k ↦ deciphered e m k ]
+abbrev pub second-key : Text → Entry → Ksm → ℕ
+second-key own e m = elim (m .second) [ none ↦ 0 | some k ↦ deciphered own e m k ]
 
 -- I alone, then K alone; else the keys
-unfoldable pub opened : Entry → Ksm → Opened
-opened e m =
+unfoldable pub opened : Text → Entry → Ksm → Opened
+opened own e m =
     if any-foreign e m then opening.Error I else
-    if any (uneven e m) (kds m) then opening.Error K else
-    opening.Keys (deciphered e m (m .kd)) (second-key e m)
+    if any (uneven own e m) (kds m) then opening.Error K else
+    opening.Keys (deciphered own e m (m .kd)) (second-key own e m)
 
 abbrev pub opened-letters : Opened → ℕ
 opened-letters (opening.Keys first second) = 0

@@ -32,6 +32,7 @@ kd-in k t = record {
 -- a KSM; an empty IV or EDK is none
 unfoldable pub ksm-in : reader-ksm.Ksm → Text → Ksm
 ksm-in m t = record {
+  nos = m .nos;
   kd = kd-in (m .first) t;
   second = cond (m .two) (some (kd-in (m .second) t)) none;
   iv = nonempty (part t (m .iv));

@@ -6,6 +6,7 @@ ghost use Rattle.receiving.specs.Texts as texts;
 ghost use Rattle.receiving.specs.Stages as stages;
 use calls::letters;
 use keying::Blocks;
+use keying::Top;
 use partner::DataKey;
 use partner::Entry;
 use partner::KeySet;
@@ -73,14 +74,28 @@ fn uneven(p: bool, key: u64) -> bool
     !keying::odd(key)
 }
 
-// The keys deciphered under the top key offset by the message's CTP: I alone, then K alone.
-pub(crate) fn open_keys(e: Entry, text: &[u8], m: Ksm) -> Opened
-    ensures { λ r. ⌜ r ≡ stages.opened e (texts.ksm-in m (now (text .entry))) ⌝ }
+// The message's working key, plain or notarized from the partner to us.
+fn working_key(own: &[u8], e: Entry, m: Ksm) -> Top
+    ensures { λ r. ⌜ r ≡ stages.working-key (now (own .entry)) e m ⌝ }
+{
+    let identity = e.identity;
+    keying::working(
+        m.nos,
+        octets::bare(&identity.bytes),
+        own,
+        partner::top_of(e.top),
+        m.ctp.value,
+    )
+}
+
+// The keys deciphered under the message's working key: I alone, then K alone.
+pub(crate) fn open_keys(own: &[u8], e: Entry, text: &[u8], m: Ksm) -> Opened
+    ensures { λ r. ⌜ r ≡ stages.opened (now (own .entry)) e (texts.ksm-in m (now (text .entry))) ⌝ }
 {
     if any_foreign(e, text, m) {
         return Opened::Error(letters::I);
     }
-    let key = keying::working(partner::top_of(e.top), m.ctp.value);
+    let key = working_key(own, e, m);
     let kd = m.first;
     let other = m.second;
     let plain = keying::unseal(

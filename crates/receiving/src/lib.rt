@@ -32,7 +32,7 @@ fn receive_ksm(own: &[u8], e: Entry, text: &[u8], m: Ksm, reply: &mut [u8]) -> T
     ensures { λ r. ⌜ r ≡ report.turned (steps.receive-ksm (now (own .entry)) e (now (text .entry)) (texts.ksm-in m (now (text .entry)))) ⌝ }
     ensures { λ r. ⌜ now (reply .exit) ≡ report.replied (steps.receive-ksm (now (own .entry)) e (now (text .entry)) (texts.ksm-in m (now (text .entry))) .outcome) (now (reply .entry)) ⌝ }
 {
-    let opened = keys::open_keys(e, text, m);
+    let opened = keys::open_keys(own, e, text, m);
     let Opened::Keys { first, second } = opened else {
         return Turned {
             entry: e,

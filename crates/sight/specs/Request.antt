@@ -26,6 +26,7 @@ no-request = record {
   iv = 0;
   dated = 0;
   date = record { digits = copies 12 0 };
+  notarized = 0;
 }
 
 -- a date: 12
@@ -41,9 +42,9 @@ key-request-layout =
     (λ k. refl)
     (λ v. refl)
 
--- IV's kind 1, IV 8; date flag 1, date 12
-abbrev pub options-layout : Codec (ℕ × (ℕ × (ℕ × Date)))
-options-layout = numeral 1 followed-by numeral 8 followed-by numeral 1 followed-by date-layout
+-- IV's kind 1, IV 8; date flag 1, date 12; notarized 1
+abbrev pub options-layout : Codec (ℕ × (ℕ × (ℕ × (Date × ℕ))))
+options-layout = numeral 1 followed-by numeral 8 followed-by numeral 1 followed-by date-layout followed-by numeral 1
 
 -- number of keys 1, twice such a key, then these
 abbrev pub request-layout : Codec Request
@@ -57,9 +58,10 @@ request-layout =
       kind = v .1 .1 .1 .0;
       iv = v .1 .1 .1 .1 .0;
       dated = v .1 .1 .1 .1 .1 .0;
-      date = v .1 .1 .1 .1 .1 .1;
+      date = v .1 .1 .1 .1 .1 .1 .0;
+      notarized = v .1 .1 .1 .1 .1 .1 .1;
     })
-    (λ r. (r .count, (r .first, (r .second, (r .kind, (r .iv, (r .dated, r .date)))))))
+    (λ r. (r .count, (r .first, (r .second, (r .kind, (r .iv, (r .dated, (r .date, r .notarized))))))))
     (λ r. refl)
     (λ v. refl)
 

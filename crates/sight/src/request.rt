@@ -10,7 +10,7 @@ use calls::Request;
 use partner::Name;
 
 // How many bytes a request has.
-pub const SIZE: usize = 73;
+pub const SIZE: usize = 74;
 
 // A request of no keys: zero throughout.
 fn no_request() -> Request
@@ -29,6 +29,7 @@ fn no_request() -> Request
         iv: 0,
         dated: 0,
         date: Date { digits: [0; 12] },
+        notarized: 0,
     }
 }
 
@@ -71,6 +72,7 @@ fn whole_in(s: &[u8]) -> Request
         iv: octets::number(&s[52..60]),
         dated: s[60],
         date: date_in(s, 61),
+        notarized: s[73],
     }
 }
 

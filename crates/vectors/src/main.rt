@@ -38,6 +38,14 @@ fn hex(s: &[u8]) -> u64 {
     n
 }
 
+// The numbers of a line: the left and the right key, the count and the block.
+struct Numbers {
+    left: u64,
+    right: u64,
+    count: u64,
+    block: u64,
+}
+
 // A block alone.
 fn alone(block: u64) -> Blocks {
     Blocks {
@@ -60,35 +68,63 @@ fn unseal(key: Top, sealed: u64) -> u64 {
 }
 
 // What an operation answers: E enciphers a block under the left key and D deciphers it; S seals a data key under the left
-// key offset by the count and U unseals it; T seals it under the pair of left and right so offset and V unseals it.
-fn answer(operation: u8, left: u64, right: u64, count: u64, block: u64) -> u64 {
+// key offset by the count and U unseals it; T seals it under the pair of left and right so offset and V unseals it; N, O, P
+// and Q are S, U, T and V under the notarizing key of an originator and a receiver.
+fn answer(operation: u8, org: &[u8], rcv: &[u8], numbers: Numbers) -> u64 {
+    let single = Top::Single(numbers.left);
+    let pair = Top::Pair(numbers.left, numbers.right);
+    let count = numbers.count;
+    let block = numbers.block;
     match operation {
-        b'E' => dea::encipher(left, block),
-        b'D' => dea::decipher(left, block),
-        b'S' => seal(keying::working(Top::Single(left), count), block),
-        b'U' => unseal(keying::working(Top::Single(left), count), block),
-        b'T' => seal(keying::working(Top::Pair(left, right), count), block),
-        b'V' => unseal(keying::working(Top::Pair(left, right), count), block),
+        b'E' => dea::encipher(numbers.left, block),
+        b'D' => dea::decipher(numbers.left, block),
+        b'S' => seal(keying::working(false, org, rcv, single, count), block),
+        b'U' => unseal(keying::working(false, org, rcv, single, count), block),
+        b'T' => seal(keying::working(false, org, rcv, pair, count), block),
+        b'V' => unseal(keying::working(false, org, rcv, pair, count), block),
+        b'N' => seal(keying::working(true, org, rcv, single, count), block),
+        b'O' => unseal(keying::working(true, org, rcv, single, count), block),
+        b'P' => seal(keying::working(true, org, rcv, pair, count), block),
+        b'Q' => unseal(keying::working(true, org, rcv, pair, count), block),
         _ => 0,
     }
 }
 
-// A line of four numbers with its answer.
-fn tell_block(line: &[u8]) {
+// A line of four numbers, what else it is about if anything, and its answer for an originator and a receiver.
+fn tell_answer(line: &[u8], about: &[u8], org: &[u8], rcv: &[u8]) {
     if line.len() < 69 {
         return;
     }
-    let n = answer(
-        line[0],
-        hex(&line[2..18]),
-        hex(&line[19..35]),
-        hex(&line[36..52]),
-        hex(&line[53..69]),
-    );
+    let numbers = Numbers {
+        left: hex(&line[2..18]),
+        right: hex(&line[19..35]),
+        count: hex(&line[36..52]),
+        block: hex(&line[53..69]),
+    };
+    let n = answer(line[0], org, rcv, numbers);
     io::write_all(1, &line[0..69]);
+    if 0 < about.len() {
+        io::write_all(1, b" ");
+        io::write_all(1, about);
+    }
     io::write_all(1, b" ");
     io::print_hex(1, n, 16);
     io::write_all(1, b"\n");
+}
+
+// The same for the originator and the receiver on the line that follows, each filled with blanks to 16 characters, and a
+// blank between them.
+fn tell_notarized(line: &[u8], text: &mut [u8]) {
+    if text.len() < 34 {
+        return;
+    }
+    io::read_full(0, &mut text[0..34]);
+    tell_answer(
+        line,
+        &text[0..33],
+        octets::bare(&text[0..16]),
+        octets::bare(&text[17..33]),
+    );
 }
 
 // The MAC under the left key of the text that follows a line, as many bytes as its count says and a line end.
@@ -136,7 +172,11 @@ fn tell(line: &[u8], text: &mut [u8]) {
         match operation {
             b'M' => tell_mac(line, text),
             b'W' => tell_message(line, text),
-            _ => tell_block(line),
+            b'N' => tell_notarized(line, text),
+            b'O' => tell_notarized(line, text),
+            b'P' => tell_notarized(line, text),
+            b'Q' => tell_notarized(line, text),
+            _ => tell_answer(line, b"", b"", b""),
         }
     }
 }

@@ -87,6 +87,7 @@ fn said(text: &[u8], m: Ksm) -> messages::Ksm {
     let mut edk = [b'0'; 12];
     writer::put_text(&mut edk, date);
     messages::Ksm {
+        nos: m.nos,
         first: key_of(text, m.first),
         two: m.two,
         second: key_of(text, m.second),

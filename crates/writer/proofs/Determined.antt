@@ -28,5 +28,8 @@ put-iv κs a x y v w p q = (alike (p .count) (q .count), alike (p .text) (q .tex
 pub put-edk : One-outcome fn.put_edk.ended fn.put_edk.Reads.Post
 put-edk κs a x y v w p q = (alike (p .count) (q .count), alike (p .text) (q .text) also refl)
 
+pub put-nos : One-outcome fn.put_nos.ended fn.put_nos.Reads.Post
+put-nos κs a x y v w p q = (alike (p .count) (q .count), alike (p .text) (q .text) also refl)
+
 pub put-keys : One-outcome fn.put_keys.ended fn.put_keys.Reads.Post
 put-keys κs a x y v w p q = (alike (p .count) (q .count), alike (p .text) (q .text) also refl)

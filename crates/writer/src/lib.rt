@@ -5,6 +5,7 @@ ghost use Prim.Native.Nat.{_%_};
 ghost use Rattle.octets.specs.Text.{blank};
 ghost use Rattle.csm.specs.Format as formats;
 ghost use Rattle.csm.specs.Fields as fields;
+ghost use Rattle.csm.specs.Message as message;
 ghost use Rattle.octets.specs.Wrote.{Wrote};
 ghost use Rattle.writer.specs.Contents as contents;
 
@@ -97,6 +98,16 @@ pub fn put_edk(rest: &mut [u8], dated: bool, edk: &[u8]) -> usize
 {
     if dated {
         return put_field(rest, b"EDK/", edk);
+    }
+    0
+}
+
+// NOS, if it is there: empty contents.
+pub fn put_nos(rest: &mut [u8], notarized: bool) -> usize
+    ensures { λ r. ⌜ Wrote (formats.maybe-print (fields.field fields.NOS) (message.flagged notarized)) (now (rest .entry)) (now (rest .exit)) r ⌝ }
+{
+    if notarized {
+        return put_text(rest, b"NOS/ ");
     }
     0
 }

@@ -17,6 +17,7 @@ mod letters;
 mod line;
 mod mac;
 mod mutants;
+mod notary;
 mod progress;
 mod random;
 mod reader;

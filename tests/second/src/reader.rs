@@ -9,7 +9,7 @@ pub const SERVICES: [&str; 12] =
     ["", "IV", "KD", "KD.IV", "KK", "KK.IV", "KK.KD", "KK.KD.IV", "*KK", "*KK.IV", "*KK.KD", "*KK.KD.IV"];
 
 pub const OPTION_CLASSES: [&str; 4] = ["DSM", "ERS", "RFS", "RTR"];
-pub const KSM_OPTIONS: [&str; 7] = ["IDC", "NOS", "KK", "*KK", "KKU", "*KKU", "KDU"];
+pub const KSM_OPTIONS: [&str; 6] = ["IDC", "KK", "*KK", "KKU", "*KKU", "KDU"];
 pub const RSI_OPTIONS: [&str; 2] = ["IDU", "IDC"];
 
 /// One KD: the enciphered key, its mark P, its own name IDK1 and the name IDK2 of the key above it.
@@ -21,6 +21,8 @@ pub struct KeyField<'a> {
 }
 
 pub struct KeyMessage<'a> {
+    /// Whether NOS stands before the first KD.
+    pub notarized: bool,
     pub keys: Vec<KeyField<'a>>,
     pub iv: Option<&'a [u8]>,
     pub date: Option<&'a [u8]>,
@@ -148,6 +150,10 @@ fn service_request<'a>(fields: &mut Fields<'a>) -> Option<Body<'a>> {
 }
 
 fn key_message<'a>(fields: &mut Fields<'a>) -> Option<KeyMessage<'a>> {
+    let notarized = fields.starts_with("NOS");
+    if notarized {
+        fields.contents("NOS").filter(|contents| contents.is_empty())?;
+    }
     let mut keys = vec![key_field(fields.contents("KD")?)?];
     if fields.starts_with("KD") {
         keys.push(key_field(fields.contents("KD")?)?);
@@ -164,7 +170,7 @@ fn key_message<'a>(fields: &mut Fields<'a>) -> Option<KeyMessage<'a>> {
     }
     let count = number(fields.contents("CTP")?)?;
     let mac = fields.halves("MAC")?;
-    Some(KeyMessage { keys, iv, date, count, mac })
+    Some(KeyMessage { notarized, keys, iv, date, count, mac })
 }
 
 /// A KD's key and up to three subfields, the last of them not empty.

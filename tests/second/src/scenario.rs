@@ -1,5 +1,6 @@
 //! The history of the last release: a key message is sent again while an old error answer is on its way.
 
+use crate::calls::REQUEST;
 use crate::case::Product;
 use crate::chart::Chart;
 use crate::image::filled;
@@ -19,7 +20,7 @@ fn request(key: u64, name: &str) -> Vec<u8> {
     request.extend(key.to_be_bytes());
     request.push(2);
     request.extend(filled(name.as_bytes()));
-    request.resize(73, 0);
+    request.resize(REQUEST, 0);
     request
 }
 

@@ -7,6 +7,7 @@ use crate::generator::tables;
 use crate::image;
 use crate::keys::{decipher, encipher, odd, Top};
 use crate::mac::mac;
+use crate::notary::{self, Ends};
 use crate::random::Random;
 use crate::reader::{self, hexadecimal, Body, SERVICES};
 use crate::table::{DataKey, Entry, Table};
@@ -20,9 +21,13 @@ const VARIABLE_KEY: &str = include_str!("../../vectors/variable-key.txt");
 const PERMUTATION: &str = include_str!("../../vectors/permutation-operation.txt");
 const SUBSTITUTION: &str = include_str!("../../vectors/substitution-table.txt");
 
+/// Data keys under notarizing keys, made with an independent library.
+const NOTARIZED: &str = include_str!("../../vectors/notarized.txt");
+
 /// How many checks held, or the first that did not.
 pub fn run() -> Result<usize, String> {
     let mut checks = published();
+    checks.extend(notarized());
     checks.extend(numbers());
     checks.extend(counts());
     checks.extend(lengths());
@@ -39,10 +44,14 @@ fn check(what: &str, holds: bool) -> (String, bool) {
     (what.to_string(), holds)
 }
 
+/// The words of each line that is no comment.
+fn lines(text: &str) -> impl Iterator<Item = Vec<&str>> {
+    text.lines().filter(|line| !line.starts_with('#') && !line.is_empty()).map(|line| line.split(' ').collect())
+}
+
 /// The numbers of each line that is no comment.
 fn rows(text: &str) -> Vec<Vec<u64>> {
-    let lines = text.lines().filter(|line| !line.starts_with('#') && !line.is_empty());
-    lines.map(|line| line.split(' ').filter_map(|word| hexadecimal(word.as_bytes())).collect()).collect()
+    lines(text).map(|words| words.iter().filter_map(|word| hexadecimal(word.as_bytes())).collect()).collect()
 }
 
 fn published() -> Checks {
@@ -59,6 +68,36 @@ fn published() -> Checks {
     let mut checks: Checks = answers.iter().map(shown).collect();
     checks.push(check("172 answers of the DEA", answers.len() == 172));
     checks.push(check("the MAC of FIPS 113", mac(KEY, b"7654321 Now is the time for ") == 0xF1D3_0F68));
+    checks
+}
+
+/// Whether a line of the known answers holds, sealed and unsealed.
+fn notarized_line(words: &[&str]) -> Option<bool> {
+    let [left, right, originator, receiver, count, key, answer] = *words else {
+        return None;
+    };
+    let number = |word: &str| hexadecimal(word.as_bytes());
+    let top = match right {
+        "-" => Top::Single(number(left)?),
+        _ => Top::Pair(number(left)?, number(right)?),
+    };
+    let ends = Ends { originator: originator.as_bytes(), receiver: receiver.as_bytes() };
+    let working = notary::notarizing(top, ends, count.parse().ok()?);
+    let (key, answer) = (number(key)?, number(answer)?);
+    Some(working.seal(key) == answer && working.unseal(answer) == key)
+}
+
+/// The halves that section 7.5 shows, and the known answers.
+fn notarized() -> Checks {
+    let halves = [("CITYB", ["CITYBCIT", "YBCITYBC"]), ("MANHAN", ["MANHANMA", "NHANMANH"])];
+    let holds = |(identity, halves): &(&str, [&str; 2])| {
+        notary::characters(identity.as_bytes()).map(|half| half.to_vec()) == halves.map(|half| half.as_bytes().to_vec())
+    };
+    let mut checks: Checks = halves.iter().map(|row| (format!("halves of {}", row.0), holds(row))).collect();
+    checks.extend(
+        lines(NOTARIZED).map(|words| (format!("notarized: {}", words.join(" ")), notarized_line(&words) == Some(true))),
+    );
+    checks.push(check("80 notarized keys", lines(NOTARIZED).count() == 80));
     checks
 }
 
@@ -118,15 +157,19 @@ fn counts() -> Checks {
     wanted.iter().map(shown).collect()
 }
 
-/// Document 01's lengths: the longest KSM, an RSM and what its MAC covers, the lister's line, the largest image.
+/// Document 01's lengths: the longest KSM without and with NOS, an RSM and what its MAC covers, the lister's line, the
+/// largest image.
 fn lengths() -> Checks {
     let name = [b'A'; 16];
-    let mut text = writer::head("KSM", &name, &[b'B'; 16]);
     let contents = writer::key_contents(0, true, Some(&name), Some(&name));
     let fields =
         [("KD", &contents[..]), ("KD", &contents), ("IV", &[b'P'; 17]), ("EDK", &[b'0'; 12]), ("CTP", b"99999998")];
-    fields.iter().for_each(|(tag, contents)| writer::field(&mut text, tag, contents));
-    let ksm = writer::authenticated(text, KEY);
+    let longest = |notarized: bool| {
+        let mut text = writer::key_message_head(&name, &[b'B'; 16], notarized);
+        fields.iter().for_each(|(tag, contents)| writer::field(&mut text, tag, contents));
+        let text = writer::authenticated(text, KEY);
+        reader::read(&text).map(|_| text.len())
+    };
     let rsm = writer::rsm(b"HARBOR", b"MILL", KEY);
     let covered = reader::read(&rsm).map(|message| message.covered.len());
     let line = b"CSM(MCL/RSI RCV/HARBOR ORG/MILL SVR/KD.IV )";
@@ -135,7 +178,7 @@ fn lengths() -> Checks {
     let names = (0..64).map(|slot| format!("P{slot}").into_bytes());
     full.slots = names.map(|identity| Some(Entry::loaded(&identity, b"TOP", Top::Single(KEY)))).collect();
     vec![
-        check("longest KSM", ksm.len() == 232 && reader::read(&ksm).is_some()),
+        check("longest KSM, and with NOS", longest(false) == Some(232) && longest(true) == Some(237)),
         check("RSM from MILL to HARBOR", rsm.len() == 47 && covered == Some(28)),
         check("the lister's line", line.len() == 43 && read),
         check(

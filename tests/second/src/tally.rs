@@ -1,5 +1,6 @@
 //! Which answer of which call was reached how often, and which had to be.
 
+use crate::calls::NOTARY_WORDS;
 use crate::case::{Call, Case, CALLS};
 use crate::image::{self, RULES};
 use crate::reader::{KSM_OPTIONS, OPTION_CLASSES, RSI_OPTIONS, SERVICES};
@@ -72,7 +73,7 @@ impl Tally {
     /// Every kind of every answer by itself.
     pub fn show_cells(&self) {
         for ((call, answer, what), times) in &self.cells {
-            println!("{:<10} {answer:>2}  {what:<40} {times:>8}", call.name());
+            println!("{:<10} {answer:>2}  {what:<63} {times:>8}", call.name());
         }
     }
 }
@@ -85,7 +86,10 @@ fn required() -> Vec<(Call, u32, String)> {
     };
     add(Call::Receive, 0, SERVICES.map(|service| format!("RSI SVR/{service}")).to_vec());
     add(Call::Receive, 0, carried().iter().map(|carried| format!("KSM of {carried}")).collect());
-    add(Call::Receive, 4, ["I", "K", "F", "M", "P", "FM", "FP", "MP", "FMP"].map(|set| format!("KSM: {set}")).to_vec());
+    for class in ["KSM", "KSM with NOS"] {
+        let sets = ["I", "K", "F", "M", "P", "FM", "FP", "MP", "FMP"];
+        add(Call::Receive, 4, sets.map(|set| format!("{class}: {set}")).to_vec());
+    }
     add(Call::Receive, 4, OPTION_CLASSES.map(|class| format!("{class}: O")).to_vec());
     add(Call::Receive, 4, KSM_OPTIONS.map(|tag| format!("KSM with {tag}: O")).to_vec());
     add(Call::Receive, 4, RSI_OPTIONS.map(|tag| format!("RSI with {tag}: O")).to_vec());
@@ -102,11 +106,13 @@ fn required() -> Vec<(Call, u32, String)> {
     cells
 }
 
-/// What a key message can carry: one or two keys, an IV or none, a date or none.
+/// What a key message can carry: one or two keys, an IV or none, a date or none, notarized or not.
 fn carried() -> Vec<String> {
-    let tails =
-        ["", ", IV plain", ", IV enciphered"].map(|iv| ["", ", EDK"].map(|date| format!("{iv}{date}"))).concat();
-    ["one key", "two keys"].iter().flat_map(|keys| tails.iter().map(move |tail| format!("{keys}{tail}"))).collect()
+    let parts: [&[&str]; 4] =
+        [&["one key", "two keys"], &["", ", IV plain", ", IV enciphered"], &["", ", EDK"], &NOTARY_WORDS];
+    parts.iter().fold(vec![String::new()], |fronts, part| {
+        fronts.iter().flat_map(|front| part.iter().map(move |words| format!("{front}{words}"))).collect()
+    })
 }
 
 /// The cells that are not one of a series.
@@ -134,7 +140,8 @@ const SINGLE: &[(Call, u32, &str)] = &[
     (Call::BuildKsm, 12, "kind of IV"),
     (Call::BuildKsm, 12, "flag of the date"),
     (Call::BuildKsm, 12, "date"),
-    (Call::BuildKsm, 12, "request not of 73 bytes"),
+    (Call::BuildKsm, 12, "flag of NOS"),
+    (Call::BuildKsm, 12, "request not of 74 bytes"),
     (Call::BuildRsi, 3, "partner not in the table"),
     (Call::BuildRsi, 6, "reply room under 256"),
     (Call::BuildRsi, 12, "no legal SVR"),

@@ -19,6 +19,15 @@ pub fn field(text: &mut Vec<u8>, tag: &str, contents: &[u8]) {
     text.push(b' ');
 }
 
+/// A KSM up to its first KD, with NOS where its keys are notarized.
+pub fn key_message_head(receiver: &[u8], originator: &[u8], notarized: bool) -> Vec<u8> {
+    let mut text = head("KSM", receiver, originator);
+    if notarized {
+        field(&mut text, "NOS", b"");
+    }
+    text
+}
+
 pub fn end(mut text: Vec<u8>) -> Vec<u8> {
     text.push(b')');
     text

@@ -1,9 +1,10 @@
 //! Build a KSM: 13, 6, 3, 7, 8, 11, 12. Build an RSI: 13, 6, 3, 12.
 
-use super::{lent_table, refuse, reply_room, Done, Refusal, Steps, NO_PARTNER};
+use super::{lent_table, notary_words, refuse, reply_room, Done, Refusal, Steps, NO_PARTNER};
 use crate::case::Case;
 use crate::image;
-use crate::keys;
+use crate::keys::{self, Top};
+use crate::notary::Ends;
 use crate::reader::{LARGEST_COUNT, SERVICES};
 use crate::table::{DataKey, Entry, Name, WAITING};
 use crate::writer;
@@ -15,17 +16,18 @@ pub struct Wanted {
     name: Vec<u8>,
 }
 
-/// A request's 73 bytes: number of keys 1, two key places, IV kind 1, IV 8, date flag 1, date 12.
+/// A request's 74 bytes: number of keys 1, two key places, IV kind 1, IV 8, date flag 1, date 12, notarized 1.
 pub struct Request {
     keys: Vec<Wanted>,
     iv_kind: u8,
     iv: u64,
     date_flag: u8,
     date: Vec<u8>,
+    notarized: u8,
 }
 
 const PLACE: usize = 25;
-pub const REQUEST: usize = 1 + 2 * PLACE + 9 + 13;
+pub const REQUEST: usize = 1 + 2 * PLACE + 9 + 13 + 1;
 
 fn number(bytes: &[u8]) -> u64 {
     bytes.iter().fold(0, |number, &byte| number << 8 | u64::from(byte))
@@ -46,9 +48,9 @@ impl Wanted {
     }
 }
 
-/// The request, with no keys where none is used, or 12 where its bytes are not 73.
+/// The request, with no keys where none is used, or 12 where its bytes are not 74.
 fn read(bytes: &[u8]) -> Result<Request, Refusal> {
-    refuse(bytes.len() != REQUEST, 12, "request not of 73 bytes")?;
+    refuse(bytes.len() != REQUEST, 12, "request not of 74 bytes")?;
     let used = if bytes[0] <= 2 { usize::from(bytes[0]) } else { 0 };
     let tail = &bytes[1 + 2 * PLACE..];
     Ok(Request {
@@ -56,7 +58,8 @@ fn read(bytes: &[u8]) -> Result<Request, Refusal> {
         iv_kind: tail[0],
         iv: number(&tail[1..9]),
         date_flag: tail[9],
-        date: tail[10..].to_vec(),
+        date: tail[10..22].to_vec(),
+        notarized: tail[22],
     })
 }
 
@@ -70,7 +73,8 @@ fn check(steps: &dyn Steps, request: &Request, number: u8) -> Result<(), Refusal
     refuse(request.keys.iter().any(|key| key.own_name() == Some(None)), 12, "name of a key")?;
     refuse(request.iv_kind > 2, 12, "kind of IV")?;
     refuse(request.date_flag > 1, 12, "flag of the date")?;
-    refuse(request.date_flag == 1 && !steps.is_date(&request.date), 12, "date")
+    refuse(request.date_flag == 1 && !steps.is_date(&request.date), 12, "date")?;
+    refuse(request.notarized > 1, 12, "flag of NOS")
 }
 
 pub fn build_ksm(steps: &dyn Steps, case: &Case) -> Result<Done, Refusal> {
@@ -83,7 +87,7 @@ pub fn build_ksm(steps: &dyn Steps, case: &Case) -> Result<Done, Refusal> {
     let bytes = case.slice("request");
     let request = read(bytes)?;
     check(steps, &request, bytes[0])?;
-    let what = format!("{} from phase {}", kind(&request), entry.phase);
+    let what = format!("{} from phase {}", kind(&request, entry.top), entry.phase);
     let written = text(steps, &own, entry, &request);
     entry.outgoing = request.keys.iter().map(|key| DataKey { key: key.key, name: key.own_name().flatten() }).collect();
     entry.next_send += 1;
@@ -93,8 +97,10 @@ pub fn build_ksm(steps: &dyn Steps, case: &Case) -> Result<Done, Refusal> {
 
 fn text(steps: &dyn Steps, own: &[u8], entry: &Entry, request: &Request) -> Vec<u8> {
     let count = steps.sent_count(entry.next_send);
-    let top = steps.offset(entry.top, count);
-    let mut text = writer::head("KSM", &entry.identity, own);
+    let notarized = request.notarized == 1;
+    let ends = Ends { originator: own, receiver: &entry.identity };
+    let top = steps.working(entry.top, notarized.then_some(ends), count);
+    let mut text = writer::key_message_head(&entry.identity, own, notarized);
     for key in &request.keys {
         let own_name = key.own_name().flatten();
         let upper_name = (key.flags & 4 != 0).then_some(&entry.name[..]);
@@ -118,11 +124,11 @@ fn text(steps: &dyn Steps, own: &[u8], entry: &Entry, request: &Request) -> Vec<
 }
 
 /// What a request asks for, in words.
-fn kind(request: &Request) -> String {
+fn kind(request: &Request, top: Top) -> String {
     let keys = if request.keys.len() == 1 { "one key" } else { "two keys" };
     let iv = ["", ", IV plain", ", IV enciphered"][usize::from(request.iv_kind)];
     let date = if request.date_flag == 1 { ", EDK" } else { "" };
-    format!("{keys}{iv}{date}")
+    format!("{keys}{iv}{date}{}", notary_words(request.notarized == 1, top))
 }
 
 pub fn build_rsi(case: &Case) -> Result<Done, Refusal> {

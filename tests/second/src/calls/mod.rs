@@ -5,10 +5,12 @@ mod custody;
 mod receive;
 mod steps;
 
+pub use build::REQUEST;
 pub use steps::{Paper, Steps};
 
 use crate::case::{Call, Case, Outcome, Product, REPORT};
 use crate::image;
+use crate::keys::Top;
 use crate::report::Report;
 use crate::table::Table;
 
@@ -83,6 +85,17 @@ fn refuse(condition: bool, answer: u32, what: &'static str) -> Result<(), Refusa
     match condition {
         true => Err(Refusal(answer, what)),
         false => Ok(()),
+    }
+}
+
+/// How the keys of a key message are sealed, in words: not notarized, or so under a single key or a pair.
+pub const NOTARY_WORDS: [&str; 3] = ["", ", NOS by a single key", ", NOS by a pair"];
+
+fn notary_words(notarized: bool, top: Top) -> &'static str {
+    match (notarized, top) {
+        (false, _) => NOTARY_WORDS[0],
+        (true, Top::Single(_)) => NOTARY_WORDS[1],
+        (true, Top::Pair(..)) => NOTARY_WORDS[2],
     }
 }
 

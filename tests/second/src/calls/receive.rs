@@ -1,8 +1,8 @@
 //! Receive: 13, 6, 1, 2, 3, then by class.
 
-use super::{lent_table, refuse, reply_room, Done, Refusal, Steps, NO_PARTNER};
+use super::{lent_table, notary_words, refuse, reply_room, Done, Refusal, Steps, NO_PARTNER};
 use crate::case::Case;
-use crate::keys;
+use crate::keys::{self, Top};
 use crate::letters;
 use crate::mac;
 use crate::reader::{self, Body, KeyMessage, Message, SERVICES};
@@ -65,19 +65,21 @@ fn receive_rsm(steps: &dyn Steps, message: &Message, given: u32, entry: &mut Ent
 }
 
 fn receive_ksm(steps: &dyn Steps, message: &Message, given: &KeyMessage, entry: &mut Entry) -> Done {
+    let class = if given.notarized { "KSM with NOS" } else { "KSM" };
     if given.keys.iter().any(|key| key.upper_name.is_some_and(|name| name != entry.name)) {
-        return error(message, "KSM", letters::I, None);
+        return error(message, class, letters::I, None);
     }
-    let top = steps.offset(entry.top, steps.offset_count(entry.expected, given.count));
+    let ends = given.notarized.then(|| steps.received_ends(message.originator, message.receiver));
+    let top = steps.working(entry.top, ends, steps.offset_count(entry.expected, given.count));
     let keys: Vec<u64> = given.keys.iter().map(|key| top.unseal(key.sealed)).collect();
     if given.keys.iter().zip(&keys).any(|(field, key)| field.marked && !keys::odd(*key)) {
-        return error(message, "KSM", letters::K, None);
+        return error(message, class, letters::K, None);
     }
     let found = judged(steps, message, given, &keys, entry.expected);
     if found != 0 {
         let counts = (found & letters::P != 0).then(|| steps.told_counts(entry.expected, given.count));
         steps.after_error(entry, given.count);
-        return error(message, "KSM", found, counts);
+        return error(message, class, found, counts);
     }
     let named =
         |(key, field): (&u64, &reader::KeyField)| DataKey { key: *key, name: field.own_name.map(<[u8]>::to_vec) };
@@ -86,7 +88,7 @@ fn receive_ksm(steps: &dyn Steps, message: &Message, given: &KeyMessage, entry: 
     let reply = writer::rsm(message.originator, message.receiver, steps.mac_key(&keys));
     let iv = given.iv.and_then(|iv| value_of(iv, steps.iv_key(&keys)));
     let report = Report { class: 2, iv, date: given.date.map(<[u8]>::to_vec), ..Report::default() };
-    taken(kind(given), reply, report)
+    taken(kind(given, entry.top), reply, report)
 }
 
 /// The letters out of F, M and P that hold.
@@ -114,12 +116,13 @@ fn value_of(contents: &[u8], key: u64) -> Option<u64> {
 }
 
 /// What an accepted key message carried, in words.
-fn kind(given: &KeyMessage) -> String {
+fn kind(given: &KeyMessage, top: Top) -> String {
     let iv = match given.iv {
         Some([b'P', ..]) => ", IV plain",
         Some(_) => ", IV enciphered",
         None => "",
     };
     let date = if given.date.is_some() { ", EDK" } else { "" };
-    format!("KSM of {}{iv}{date}", if given.keys.len() == 1 { "one key" } else { "two keys" })
+    let keys = if given.keys.len() == 1 { "one key" } else { "two keys" };
+    format!("KSM of {keys}{iv}{date}{}", notary_words(given.notarized, top))
 }

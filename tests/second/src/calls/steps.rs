@@ -2,6 +2,7 @@
 
 use crate::date;
 use crate::keys::Top;
+use crate::notary::{self, Ends};
 use crate::reader::LARGEST_COUNT;
 use crate::table::{Entry, BROKEN, WAITING};
 
@@ -16,9 +17,25 @@ pub trait Steps {
         keys[keys.len() - 1]
     }
 
-    /// The key that data keys go under in the message with this count.
+    /// The key that data keys go under in the message with this count, notarized for these ends or not.
+    fn working(&self, top: Top, notarized: Option<Ends>, count: u32) -> Top {
+        match notarized {
+            Some(ends) => self.notarizing(top, ends, count),
+            None => self.offset(top, count),
+        }
+    }
+
     fn offset(&self, top: Top, count: u32) -> Top {
         top.offset(count)
+    }
+
+    fn notarizing(&self, top: Top, ends: Ends, count: u32) -> Top {
+        notary::notarizing(top, ends, count)
+    }
+
+    /// The ends for which the keys of a received message are notarized.
+    fn received_ends<'a>(&self, originator: &'a [u8], receiver: &'a [u8]) -> Ends<'a> {
+        Ends { originator, receiver }
     }
 
     /// The count whose offset deciphers the data keys of a received message.

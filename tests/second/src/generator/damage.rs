@@ -2,6 +2,7 @@
 
 use super::tables;
 use crate::random::Random;
+use crate::reader::KSM_OPTIONS;
 use crate::writer;
 
 const CHARACTERS: &[u8] = b"ABCDEFGHIJKLMNOPQRSTUVWXYZ0123456789 ./*-()";
@@ -67,6 +68,25 @@ fn contents(random: &mut Random, text: &[u8]) -> Vec<u8> {
     parts.concat()
 }
 
+/// A text with NOS before its KD, in which NOS stands otherwise than it may.
+pub fn misplaced_nos(random: &mut Random, text: &[u8]) -> Vec<u8> {
+    let text = String::from_utf8_lossy(text);
+    let Some((head, rest)) = text.split_once("NOS/ ") else {
+        return text.into_owned().into_bytes();
+    };
+    let (key, tail) = rest.split_once(' ').unwrap_or((rest, ""));
+    let text = match random.below(7) {
+        0 => format!("{head}NOS/ NOS/ {rest}"),
+        1 => format!("{head}NOS/{} {rest}", random.pick(&["X", "0", ".", " ", "NOS"])),
+        2 => format!("{head}{key} NOS/ {tail}"),
+        3 => format!("{head}NOS/ )"),
+        4 => format!("{head}NOS/ {}/X {rest}", random.pick(&KSM_OPTIONS)),
+        5 => format!("{head}NOS/{rest}"),
+        _ => format!("{head}NOS {rest}"),
+    };
+    text.into_bytes()
+}
+
 /// A head and then fields that are each plausible, in any order.
 pub fn soup(random: &mut Random, receiver: &[u8], originator: &[u8]) -> Vec<u8> {
     let class = random.pick(&["RSI", "KSM", "RSM", "ESM", "DSM", "ERS", "RFS", "RTR", "ABC", "KS"]);
@@ -94,7 +114,7 @@ pub fn noise(random: &mut Random) -> Vec<u8> {
 }
 
 /// Fields with contents that are legal somewhere, or nearly so.
-const PLAUSIBLE: [(&str, &str); 40] = [
+const PLAUSIBLE: [(&str, &str); 42] = [
     ("SVR", ""),
     ("SVR", "KD.IV"),
     ("SVR", "IV.KD"),
@@ -135,4 +155,6 @@ const PLAUSIBLE: [(&str, &str); 40] = [
     ("EDC", "0123 ABCD"),
     ("EDC", "0123 abcd"),
     ("IDC", "X-1"),
+    ("NOS", ""),
+    ("NOS", "X"),
 ];

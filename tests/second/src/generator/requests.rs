@@ -1,18 +1,19 @@
 //! Requests for a KSM: every flag, good and bad parts, each by itself and together.
 
 use super::tables;
+use crate::calls::REQUEST;
 use crate::image::filled;
 use crate::random::Random;
 
 /// A request, sometimes with faults and seldom of another length.
 pub fn request(random: &mut Random) -> Vec<u8> {
     if random.chance(3) {
-        return random.bytes(73);
+        return random.bytes(REQUEST);
     }
     let number = if random.chance(8) { random.pick(&[0, 3, 255]) } else { random.pick(&[1, 2]) };
     let mut bytes = with_keys(random, number, 4);
     if random.chance(4) {
-        bytes.resize(random.pick(&[0, 1, 26, 51, 72, 74, 146]), b'0');
+        bytes.resize(random.pick(&[0, 1, 26, 51, 72, 73, 75, 148]), b'0');
     }
     bytes
 }
@@ -41,6 +42,7 @@ fn with_keys(random: &mut Random, number: u8, faults: usize) -> Vec<u8> {
     bytes.extend(random.bytes(8));
     bytes.push(if random.chance(faults) { random.pick(&[2, 3, 255]) } else { random.below(2) as u8 });
     bytes.extend(if random.chance(3 * faults) { no_date(random) } else { date(random) });
+    bytes.push(if random.chance(faults) { random.pick(&[2, 3, 255]) } else { random.below(2) as u8 });
     bytes
 }
 

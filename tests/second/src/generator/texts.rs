@@ -1,9 +1,11 @@
 //! Texts to receive: genuine messages of every class, messages with chosen errors, damaged and random ones.
 
 use super::{damage, requests, service, tables};
+use crate::calls::{Paper, Steps};
 use crate::keys;
 use crate::letters;
 use crate::mac;
+use crate::notary;
 use crate::random::Random;
 use crate::reader::{KSM_OPTIONS, OPTION_CLASSES, RSI_OPTIONS};
 use crate::table::{bare, Entry, Table};
@@ -53,9 +55,12 @@ fn ends(random: &mut Random, table: &Table) -> Ends {
 /// A key message with each of its possible errors chosen by itself.
 fn ksm(random: &mut Random, ends: &Ends) -> Vec<u8> {
     let count = received_count(random, ends.entry.expected);
-    let top = ends.entry.top.offset(count);
     let faulty = random.chance(40);
-    let mut text = writer::head("KSM", &ends.receiver, &ends.originator);
+    let notarized = random.chance(50);
+    let both = notary::Ends { originator: &ends.originator, receiver: &ends.receiver };
+    let otherwise = faulty && random.chance(8);
+    let top = Paper.working(ends.entry.top, (notarized != otherwise).then_some(both), count);
+    let mut text = writer::key_message_head(&ends.receiver, &ends.originator, notarized);
     let number = 1 + random.below(2);
     let equal = random.chance(3);
     let mut bare: Vec<u64> = Vec::new();
@@ -74,9 +79,14 @@ fn ksm(random: &mut Random, ends: &Ends) -> Vec<u8> {
         bare.push(key);
     }
     tail(random, &mut text, &bare, faulty);
-    writer::field(&mut text, "CTP", count.to_string().as_bytes());
+    let zero = if faulty && random.chance(3) { "0" } else { "" };
+    writer::field(&mut text, "CTP", format!("{zero}{count}").as_bytes());
     let wrong = if faulty && random.chance(40) { 1 << random.below(64) } else { 0 };
-    authenticated(text, bare.iter().fold(wrong, |joined, key| joined ^ key), random.chance(2))
+    let text = authenticated(text, bare.iter().fold(wrong, |joined, key| joined ^ key), random.chance(2));
+    match notarized && random.chance(10) {
+        true => damage::misplaced_nos(random, &text),
+        false => text,
+    }
 }
 
 /// The message with its MAC, or with one bit of the MAC changed.

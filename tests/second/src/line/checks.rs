@@ -45,12 +45,16 @@ pub fn call(case: &Case, outcome: &Outcome) -> Vec<String> {
     found
 }
 
-/// What of a built message is wrong: it is not of the class asked for, or not to the partner.
+/// What of a built message is wrong: it is not of the class asked for, not to the partner, or NOS is not as asked for.
 fn built(case: &Case, outcome: &Outcome) -> Option<&'static str> {
     let reply = outcome.slices[case.room()?].get(..outcome.length())?;
     let message = reader::read(reply).filter(|message| message.receiver == case.slice("partner"));
     match (case.call, message.map(|message| message.body)) {
-        (Call::BuildKsm, Some(Body::Ksm(_))) | (Call::BuildRsi, Some(Body::Rsi { .. })) => None,
+        (Call::BuildKsm, Some(Body::Ksm(keys))) => {
+            let asked = case.slice("request").last() == Some(&1);
+            (keys.notarized != asked).then_some("has NOS unasked, or has none")
+        }
+        (Call::BuildRsi, Some(Body::Rsi { .. })) => None,
         _ => Some("wrote no such message to the partner"),
     }
 }

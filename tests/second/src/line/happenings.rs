@@ -3,10 +3,14 @@
 use std::collections::BTreeMap;
 
 /// What a run has to have seen.
-const REQUIRED: [&str; 22] = [
+const REQUIRED: [&str; 26] = [
     "keys confirmed",
     "key message accepted",
     "key message accepted after a gap in the counts",
+    "notarized: key message accepted",
+    "notarized: key message refused with M",
+    "notarized: key message refused with P",
+    "notarized: keys confirmed",
     "key message refused with M",
     "key message refused with P",
     "receipt refused with M",
@@ -28,15 +32,15 @@ const REQUIRED: [&str; 22] = [
     "history of three cards",
 ];
 
-pub struct Happenings(BTreeMap<&'static str, u64>);
+pub struct Happenings(BTreeMap<String, u64>);
 
 impl Happenings {
     pub fn new() -> Happenings {
-        Happenings(REQUIRED.map(|what| (what, 0)).into())
+        Happenings(REQUIRED.map(|what| (what.to_string(), 0)).into())
     }
 
-    pub fn count(&mut self, what: &'static str) {
-        *self.0.entry(what).or_default() += 1;
+    pub fn count(&mut self, what: &str) {
+        *self.0.entry(what.to_string()).or_default() += 1;
     }
 
     pub fn missing(&self) -> Vec<String> {

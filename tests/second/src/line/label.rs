@@ -17,6 +17,7 @@ pub fn label(text: &[u8]) -> String {
     match reader::read(text).map(|message| message.body) {
         None => "a text that is no message".to_string(),
         Some(Body::Rsi { service }) => format!("RSI {}", SERVICES[service]),
+        Some(Body::Ksm(keys)) if keys.notarized => format!("KSM {} with NOS", keys.count),
         Some(Body::Ksm(keys)) => format!("KSM {}", keys.count),
         Some(Body::Rsm { mac }) => format!("RSM {:04X}", mac >> 16),
         Some(Body::Esm { counts: Some((told, _)), letters }) => {

@@ -97,6 +97,9 @@ impl World<'_> {
             _ => "other outcome",
         };
         self.happenings.count(happening);
+        if self.notarized(card, from, &message) {
+            self.happenings.count(&format!("notarized: {happening}"));
+        }
         match (&message.body, answer, before) {
             (Body::Ksm(keys), 0, Some(before)) => {
                 if keys.count > before.expected {
@@ -106,6 +109,16 @@ impl World<'_> {
             }
             (Body::Esm { .. }, 0, Some(before)) => self.notice_esm(card, from, flight.damaged, before),
             _ => {}
+        }
+    }
+
+    /// Whether the keys that the message is about are notarized: its own, or those that it confirms.
+    fn notarized(&self, card: usize, from: usize, message: &reader::Message) -> bool {
+        let sent = self.sent.get(&(card, from)).and_then(|(text, _)| reader::read(text));
+        match (&message.body, sent.map(|message| message.body)) {
+            (Body::Ksm(keys), _) => keys.notarized,
+            (Body::Rsm { .. }, Some(Body::Ksm(keys))) => keys.notarized,
+            _ => false,
         }
     }
 

@@ -14,6 +14,15 @@ pub fn done(case: &Case) -> Outcome {
     judge(&Paper, case).0
 }
 
+/// What it does where another slice is lent at a place; the slice that was lent stays.
+pub fn done_with(case: &Case, place: usize, slice: Vec<u8>) -> Outcome {
+    let mut changed = case.clone();
+    changed.slices[place] = slice;
+    let mut outcome = done(&changed);
+    outcome.slices[place] = case.slices[place].clone();
+    outcome
+}
+
 /// Whether the case is a received key message, and whose.
 fn key_message_from(case: &Case) -> Option<Name> {
     match reader::read(case.slice("text"))? {

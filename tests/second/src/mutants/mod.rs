@@ -2,6 +2,7 @@
 
 mod cards;
 mod orders;
+mod requests;
 mod steps;
 mod texts;
 
@@ -39,6 +40,13 @@ macro_rules! step {
 macro_rules! card {
     ($name:literal, $by:ident, $card:ident) => {
         Mutant { name: $name, by: By::$by, make: || Box::new(cards::$card::default()) }
+    };
+}
+
+/// A mutant that builds by another request.
+macro_rules! misread {
+    ($name:literal, $by:ident, $request:ident) => {
+        Mutant { name: $name, by: By::$by, make: || Box::new(requests::Misread(requests::$request)) }
     };
 }
 
@@ -80,9 +88,20 @@ pub const MUTANTS: &[Mutant] = &[
     step!("confirmed-by-an-esm", Both, ConfirmedByAnEsm),
     step!("keys-under-the-expected-count", Comparison, KeysUnderTheExpectedCount),
     step!("leap-day-in-year-00", Comparison, LeapDayInYear00),
+    step!("nos-read-and-not-used", Comparison, NosNotUsed),
+    step!("fm-and-to-exchanged", Comparison, FromAndToExchanged),
+    step!("notarized-keys-received-as-if-sent", Both, ReceivedAsIfSent),
+    step!("characters-not-shifted", Comparison, CharactersNotShifted),
+    step!("halves-of-a-pair-exchanged", Comparison, HalvesOfAPairExchanged),
+    step!("parts-of-the-seal-exchanged", Comparison, SealPartsExchanged),
+    step!("notarized-without-the-count", Comparison, NotarizedWithoutTheCount),
+    step!("one-part-of-the-seal-for-a-single-key", Comparison, OneSealPartForASingleKey),
     card!("a-refusal-leaves-the-report", Both, RefusalLeavesTheReport),
     card!("out-cleared-past-the-image", Both, OutClearedPastTheImage),
     card!("giving-up-wipes-incoming-keys", Both, GivingUpWipesIncomingKeys),
+    misread!("never-notarized", Both, never_notarized),
+    misread!("any-flag-notarizes", Comparison, any_flag_notarizes),
+    misread!("a-request-of-73-bytes-taken", Comparison, a_byte_short),
     later!("room-judged-last", room_last),
     later!("parity-of-a-key-judged-last", parity_last),
     later!("spent-count-before-a-waiting-message", spent_first),
@@ -96,6 +115,9 @@ pub const MUTANTS: &[Mutant] = &[
     loose!("a-check-code-that-is-none", check_code),
     loose!("letters-in-any-order", letters_in_any_order),
     loose!("esm-counts-without-p", counts_without_p),
+    loose!("nos-still-an-option", nos_option),
+    loose!("nos-twice", nos_twice),
+    loose!("nos-with-contents", nos_contents),
 ];
 
 /// How much is tried before a mutant counts as not caught.

@@ -3,6 +3,7 @@
 use crate::calls::Steps;
 use crate::date;
 use crate::keys::Top;
+use crate::notary::{self, Ends};
 use crate::table::{Entry, BROKEN, CONFIRMED};
 
 pub struct MacByTheFirstKey;
@@ -117,5 +118,74 @@ pub struct LeapDayInYear00;
 impl Steps for LeapDayInYear00 {
     fn is_date(&self, digits: &[u8]) -> bool {
         date::is_date(digits) || digits.starts_with(b"000229") && date::is_date(&[b"840229", &digits[6..]].concat())
+    }
+}
+
+pub struct NosNotUsed;
+impl Steps for NosNotUsed {
+    fn notarizing(&self, top: Top, _ends: Ends, count: u32) -> Top {
+        top.offset(count)
+    }
+}
+
+/// The ends exchanged.
+fn turned(ends: Ends) -> Ends {
+    Ends { originator: ends.receiver, receiver: ends.originator }
+}
+
+pub struct FromAndToExchanged;
+impl Steps for FromAndToExchanged {
+    fn notarizing(&self, top: Top, ends: Ends, count: u32) -> Top {
+        notary::notarizing(top, turned(ends), count)
+    }
+}
+
+pub struct ReceivedAsIfSent;
+impl Steps for ReceivedAsIfSent {
+    fn received_ends<'a>(&self, originator: &'a [u8], receiver: &'a [u8]) -> Ends<'a> {
+        turned(Ends { originator, receiver })
+    }
+}
+
+pub struct CharactersNotShifted;
+impl Steps for CharactersNotShifted {
+    fn notarizing(&self, top: Top, ends: Ends, count: u32) -> Top {
+        let unshifted = |key: u64, characters: [u8; 8]| key ^ u64::from_be_bytes(characters);
+        notary::sealed(top, notary::seal(top, ends, unshifted)).offset(count)
+    }
+}
+
+pub struct HalvesOfAPairExchanged;
+impl Steps for HalvesOfAPairExchanged {
+    fn notarizing(&self, top: Top, ends: Ends, count: u32) -> Top {
+        let exchanged = match top {
+            Top::Single(_) => top,
+            Top::Pair(left, right) => Top::Pair(right, left),
+        };
+        notary::sealed(top, notary::seal(exchanged, ends, notary::plus)).offset(count)
+    }
+}
+
+pub struct SealPartsExchanged;
+impl Steps for SealPartsExchanged {
+    fn notarizing(&self, top: Top, ends: Ends, count: u32) -> Top {
+        let [left, right] = notary::seal(top, ends, notary::plus);
+        notary::sealed(top, [right, left]).offset(count)
+    }
+}
+
+pub struct NotarizedWithoutTheCount;
+impl Steps for NotarizedWithoutTheCount {
+    fn notarizing(&self, top: Top, ends: Ends, _count: u32) -> Top {
+        notary::notarizing(top, ends, 0)
+    }
+}
+
+pub struct OneSealPartForASingleKey;
+impl Steps for OneSealPartForASingleKey {
+    fn notarizing(&self, top: Top, ends: Ends, count: u32) -> Top {
+        let [left, right] = notary::seal(top, ends, notary::plus);
+        let parts = if matches!(top, Top::Single(_)) { [left, left] } else { [left, right] };
+        notary::sealed(top, parts).offset(count)
     }
 }

@@ -1,6 +1,6 @@
 //! Mutants that read texts which are no messages, as if they were the messages that they resemble.
 
-use super::cards::done;
+use super::cards::{done, done_with};
 use crate::case::{Case, Outcome, Product};
 use crate::reader;
 
@@ -12,11 +12,7 @@ impl Product for Loose {
         let Some(place) = case.place("text").filter(|place| reader::read(&case.slices[*place]).is_none()) else {
             return Ok(done(case));
         };
-        let mut changed = case.clone();
-        changed.slices[place] = self.0(&case.slices[place]);
-        let mut outcome = done(&changed);
-        outcome.slices[place] = case.slices[place].clone();
-        Ok(outcome)
+        Ok(done_with(case, place, self.0(&case.slices[place])))
     }
 }
 
@@ -75,5 +71,22 @@ pub fn counts_without_p(text: &[u8]) -> Vec<u8> {
     match (text.split_once("CTP/"), text.split_once("ERF/")) {
         (Some((before, _)), Some((_, after))) => format!("{before}ERF/{after}").into_bytes(),
         _ => text.into_bytes(),
+    }
+}
+
+pub fn nos_option(text: &[u8]) -> Vec<u8> {
+    replaced(text, "NOS/", "IDC/")
+}
+
+pub fn nos_twice(text: &[u8]) -> Vec<u8> {
+    replaced(text, "NOS/ NOS/ ", "NOS/ ")
+}
+
+/// The text without what stands between NOS's slash and its blank.
+pub fn nos_contents(text: &[u8]) -> Vec<u8> {
+    let text = String::from_utf8_lossy(text).into_owned();
+    match text.split_once("NOS/").and_then(|(before, rest)| Some((before, rest.split_once(' ')?.1))) {
+        Some((before, after)) => format!("{before}NOS/ {after}").into_bytes(),
+        None => text.into_bytes(),
     }
 }

@@ -8,24 +8,20 @@ use Rattle.reader.proofs.options.ksm_option.Tie as tie
 
 returns : tie.Need-returns
 returns c =
-    let d = c .before .before .before .before .before .before .before .before .before in
+    let d = c .before .before .before .before .before .before in
     let last = d .before .before .before .before .before .before .before .before .before .starts .ensures in
-    or-both (c .either6 .ensures) (c .before .starts7 .ensures)
-    (or-both (c .before .before .before .either5 .ensures) (c .before .before .before .before .starts6 .ensures)
-    (or-both (c .before .before .before .before .before .before .either4 .ensures) (c .before .before .before .before .before .before .before .starts5 .ensures)
+    or-both (c .either5 .ensures) (c .before .starts6 .ensures)
+    (or-both (c .before .before .before .either4 .ensures) (c .before .before .before .before .starts5 .ensures)
     (or-both (d .either3 .ensures) (d .before .starts4 .ensures)
     (or-both (d .before .before .before .either2 .ensures) (d .before .before .before .before .starts3 .ensures)
     (or-both (d .before .before .before .before .before .before .either .ensures) (d .before .before .before .before .before .before .before .starts2 .ensures)
-    (last ∙ sym (or-false _)))))))
+    (last ∙ sym (or-false _))))))
 
 pub ksm-option-spec : {M : Type 1} → statement M
 ksm-option-spec =
     tie.close
     (tie.spec
     (λ c. search needs)
-    (λ c κs. search needs)
-    (λ c. search needs)
-    (λ c κs. search needs)
     (λ c κs. search needs)
     (λ c. search needs)
     (λ c κs. search needs)

@@ -14,12 +14,12 @@ use Rattle.sight.proofs.request.whole_in.Tie as tie
 returns : tie.Need-returns
 unfolding whole-in
 returns c =
-    let keys = c .before .before .before .before .before in
+    let keys = c .before .before .before .before .before .before in
     let start = keys .before .before .before .before in
     let s = start .args .s .now in
     let h = start .pre in
     let o = octets-lent s (keys .before .before .before .shared-slice-known .given) in
-    let v = c .before .before .number .ensures
+    let v = c .before .before .before .number .ensures
     ∙ ap (λ (t : Text). number t % 2 ^ 64) (part-cut 8 52 60 s (omega arith) (omega arith))
     ∙ part-fits 8 52 s o (omega arith) in
     λ i. record {
@@ -29,7 +29,8 @@ returns c =
       kind = part-byte 51 s (omega arith) i;
       iv = v i;
       dated = part-byte 60 s (omega arith) i;
-      date = c .date-in .ensures i;
+      date = c .before .date-in .ensures i;
+      notarized = part-byte 73 s (omega arith) i;
     }
 
 pub whole-in-spec : {M : Type 1} → statement M
@@ -46,4 +47,5 @@ whole-in-spec =
     (λ c κs. search needs)
     (λ c. search needs)
     (λ c κs. search needs)
+    (λ c. search needs)
     returns)
