@@ -17,8 +17,9 @@ FACES = {"host", "row"}
 # modules that state theorems, or are words of such statements alone: by their name in any crate, or in one
 THEOREMS = {"Claims", "Numbers", "Examples", "Orders"}
 THEOREMS |= {f"calls/specs/{name}" for name in ("Good", "Results", "Steps", "Refusals")}
-THEOREMS |= {f"demands/specs/{name}" for name in ("Demands", "Face", "Contracts", "Terms", "Hosts")}
-THEOREMS |= {"octets/specs/First", "octets/specs/One", "line/specs/Line", "line/specs/Worked"}
+THEOREMS |= {f"demands/specs/{name}" for name in ("Demands", "Face", "Terms", "Hosts")}
+THEOREMS |= {"octets/specs/First", "octets/specs/One", "line/specs/Line", "worked/specs/Worked"}
+THEOREMS |= {"firmware/specs/Firmware", "firmware/specs/Contracts"}
 PARTS = ["|", "Beneath the calls", "No public contract"]
 
 MODULE = r"Rattle·(\w+)(?:·specs)?\.(specs|proofs)\.([A-Z]\w*)"

@@ -285,7 +285,7 @@ def start_orphaned(terminal_file, command):
 def converse(master, child, lines):
     """What the terminal shows until the program has ended, or has not for long; lines are typed when a component is
     asked for."""
-    shown, until = b"", time.monotonic() + 10
+    shown, until = b"", time.monotonic() + 60
     while True:
         if select.select([master], [], [], 0.1)[0]:
             shown += os.read(master, 1000)

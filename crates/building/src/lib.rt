@@ -38,7 +38,7 @@ pub fn build_ksm(own: &[u8], e: Entry, q: Request, reply: &mut [u8]) -> Turned
     }
     let n = message::write(own, e, q, reply);
     Turned {
-        entry: partner::with_sending(e, partner::issued(e.sending, message::outgoing(q))),
+        entry: changes::with_sending(e, changes::issued(e.sending, message::outgoing(q))),
         report: outcome::told_nothing(n),
     }
 }
@@ -73,7 +73,7 @@ pub fn give_up(e: Entry) -> Turned
         return outcome::refused(e, 5);
     }
     Turned {
-        entry: partner::with_sending(e, partner::given_up(sending)),
+        entry: changes::with_sending(e, changes::given_up(sending)),
         report: outcome::told_nothing(0),
     }
 }

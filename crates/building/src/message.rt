@@ -58,8 +58,8 @@ fn sealed_for(own: &[u8], e: Entry, q: Request) -> Blocks
     let two = q.second;
     let sending = e.sending;
     let identity = e.identity;
-    keying::seal(
-        keying::working(
+    sealing::seal(
+        notary::working(
             q.notarized == 1,
             own,
             octets::bare(&identity.bytes),
@@ -109,7 +109,7 @@ fn vector(q: Request) -> Vector
         return Vector::Plain(q.iv);
     }
     if q.kind == 2 {
-        return Vector::Enciphered(keying::conceal(partner::data_keys(outgoing(q)), q.iv));
+        return Vector::Enciphered(sealing::conceal(partner::data_keys(outgoing(q)), q.iv));
     }
     Vector::Absent
 }
@@ -143,7 +143,7 @@ pub(crate) fn write(own: &[u8], e: Entry, q: Request, reply: &mut [u8]) -> usize
     ensures { λ r. ⌜ now (reply .exit) ≡ parts.fronted (building.ksm-text (now (own .entry)) e q) (now (reply .entry)) ⌝ }
 {
     let identity = e.identity;
-    let mac_key = keying::mac_key(partner::data_keys(outgoing(q)));
+    let mac_key = sealing::mac_key(partner::data_keys(outgoing(q)));
     messages::length_of(messages::write_ksm(
         reply,
         octets::bare(&identity.bytes),

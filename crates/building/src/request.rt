@@ -31,7 +31,7 @@ pub(crate) fn wants_idk2(k: KeyRequest) -> bool
 fn not_odd(k: KeyRequest) -> bool
     ensures { λ r. ⌜ r ≡ building.not-odd k ⌝ }
 {
-    wants_p(k) && !keying::odd(k.key)
+    wants_p(k) && !sealing::odd(k.key)
 }
 
 // Whether a used key is to be marked P and is not of odd parity; of more than two none is used.
@@ -55,7 +55,7 @@ fn bad_key(k: KeyRequest) -> bool
         return true;
     }
     let name = k.name;
-    wants_idk1(k) && !partner::is_filled(&name.bytes)
+    wants_idk1(k) && !rules::is_filled(&name.bytes)
 }
 
 // Whether two keys are equal in all 64 bits, or one of them is bad.
@@ -98,5 +98,5 @@ pub(crate) fn malformed(q: Request) -> bool
         return true;
     }
     let date = q.date;
-    q.dated == 1 && !keying::is_date(&date.digits)
+    q.dated == 1 && !dates::is_date(&date.digits)
 }

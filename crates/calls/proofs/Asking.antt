@@ -7,7 +7,7 @@ use native.Mathlib.Omega.{arith}
 use lib.Dec.{eqb, ltb}
 use borrow.Author.Tests.{eqb-true, eqb-false, eq-eqb, ne-eqb, ltb-true, lt-ltb, not-false}
 use Rattle.keying.specs.Parity.{odd}
-use Rattle.keying.specs.Date.{is-date}
+use Rattle.dates.specs.Date.{is-date}
 use Rattle.partner.specs.declared.Entry.{Entry}
 use Rattle.partner.specs.Entry.{waiting}
 use Rattle.partner.specs.Legal.{is-filled}

@@ -15,7 +15,7 @@ use Rattle.keying.specs.Keys.{unseal}
 use Rattle.keying.specs.Working.{working}
 use Rattle.keying.specs.Mac.{mac-key, mac}
 use Rattle.keying.specs.Iv.{conceal, reveal}
-use Rattle.keying.specs.Date.{is-date}
+use Rattle.dates.specs.Date.{is-date}
 use Rattle.keying.proofs.Laws.{unseal-seal, reveal-conceal, conceal-lt}
 use Rattle.csm.specs.Fields.{named, hex-text}
 use Rattle.csm.specs.Message.{ksm}

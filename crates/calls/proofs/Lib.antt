@@ -20,5 +20,4 @@ pub mod Numbers
 pub mod Claims
 pub mod Steps
 pub mod Refusals
-pub mod Example
 pub mod Orders

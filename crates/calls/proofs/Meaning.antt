@@ -14,7 +14,7 @@ use Rattle.octets.proofs.Comparing.{same-equal as same-true, same-self as same-
 use Rattle.keying.specs.Parity.{odd}
 use Rattle.keying.specs.Mac.{mac-key, mac}
 use Rattle.keying.specs.Iv.{reveal}
-use Rattle.keying.specs.Date.{is-date}
+use Rattle.dates.specs.Date.{is-date}
 use Rattle.csm.specs.Fields.{Kd, named, numeral}
 use Rattle.csm.specs.Covered.{covered}
 use Rattle.csm.proofs.TextLaws.{none-some, some-inj}

@@ -4,6 +4,7 @@ use mathlib.Core.Bool.{true, false}
 use Prim.Native.Nat.{ℕ, _+_, _≤_, _<_}
 use native.Mathlib.Omega.{arith}
 use Rattle.octets.specs.Text.{within}
+use Rattle.dates.proofs.Numbers as dates
 use Rattle.keying.proofs.Numbers as keying
 use Rattle.partner.specs.Entry.{limit}
 use Rattle.partner.specs.Changes.{accepted}
@@ -37,6 +38,7 @@ out-of-turn expected count l n own e text m p q g =
 pub numbers : Numbers
 numbers = record {
   of-keys = keying.numbers;
+  of-dates = dates.numbers;
   count-5-leaves-6 = leaves-one-more 5 5 (omega arith) (omega arith);
   count-7-leaves-8 = leaves-one-more 5 7 (omega arith) (omega arith);
   count-4-is-P = out-of-turn 5 4 refl (λ i. let k = i .fresh in omega arith);

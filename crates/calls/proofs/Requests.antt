@@ -11,7 +11,7 @@ use Rattle.octets.specs.Text.{Text, same, is-run}
 use Rattle.octets.specs.Part.{bare}
 use Rattle.octets.proofs.Comparing.{both as and-true, same-self as same-refl}
 use Rattle.keying.specs.Iv.{conceal}
-use Rattle.keying.specs.Date.{is-date, is-day, is-time, two as pair-of}
+use Rattle.dates.specs.Date.{is-date, is-day, is-time, two as pair-of}
 use Rattle.keying.proofs.Laws.{seal-lt}
 use Rattle.csm.specs.Format.{maybe-legal}
 use Rattle.csm.specs.Fields.{KD, IV, EDK, field, kd, named, legal-name}

@@ -12,7 +12,7 @@ use Rattle.keying.specs.Keys.{seal}
 use Rattle.keying.specs.Working.{working}
 use Rattle.keying.specs.Mac.{mac-key, mac}
 use Rattle.keying.specs.Iv.{conceal}
-use Rattle.keying.specs.Date.{is-date}
+use Rattle.dates.specs.Date.{is-date}
 use Rattle.csm.specs.Format.{value}
 use Rattle.csm.specs.Fields.{Kd, hex-text, svr}
 use Rattle.csm.specs.Message.{Body, rsi, ksm, print}

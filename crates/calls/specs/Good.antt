@@ -13,7 +13,7 @@ use Rattle.keying.specs.Keys.{unseal}
 use Rattle.keying.specs.Working.{working}
 use Rattle.keying.specs.Mac.{mac-key, mac}
 use Rattle.keying.specs.Iv.{reveal}
-use Rattle.keying.specs.Date.{is-date}
+use Rattle.dates.specs.Date.{is-date}
 use Rattle.csm.specs.Fields.{Kd, numeral}
 use Rattle.csm.specs.Covered.{covered}
 use Rattle.csm.specs.Message.{Ksm}

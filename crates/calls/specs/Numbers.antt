@@ -4,6 +4,7 @@ use mathlib.Core.Path.{_≡_}
 use mathlib.Core.Option.{none, some}
 use Prim.Native.Nat.{ℕ}
 use Rattle.octets.specs.Text.{Text, ascii}
+use Rattle.dates.specs.Numbers as dates
 use Rattle.keying.specs.Numbers as keying
 use Rattle.csm.specs.Format.{value}
 use Rattle.csm.specs.Fields.{svr, error-letters, letters-of}
@@ -32,8 +33,10 @@ pub record Is-P (expected : ℕ) (t : Turn) : Type 0 where
   pub expects : t .entry .receiving .expected ≡ expected
 
 pub record Numbers : Type 0 where
-  -- parity, offset by 258, the two dates
+  -- parity, offset by 258
   pub of-keys : keying.Numbers
+  -- the two dates
+  pub of-dates : dates.Numbers
   pub count-5-leaves-6 : Comes-to 5 5 (Leaves 6)
   pub count-7-leaves-8 : Comes-to 5 7 (Leaves 8)
   pub count-4-is-P : Comes-to 5 4 (Is-P 5)

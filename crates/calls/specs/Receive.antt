@@ -12,7 +12,7 @@ use Rattle.keying.specs.Keys.{unseal}
 use Rattle.keying.specs.Working.{working}
 use Rattle.keying.specs.Mac.{mac-key, mac}
 use Rattle.keying.specs.Iv.{reveal}
-use Rattle.keying.specs.Date.{is-date}
+use Rattle.dates.specs.Date.{is-date}
 use Rattle.csm.specs.Fields.{Kd, named, numeral}
 use Rattle.csm.specs.Message.{Ksm, Rsm, Esm, Body, rsi, ksm, rsm, esm, option, Reading, print}
 use Rattle.csm.specs.Covered.{covered, covered-part}

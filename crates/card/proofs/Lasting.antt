@@ -19,7 +19,7 @@ use Rattle.sight.specs.declared.aims.Act.{Act}
 use Rattle.sight.specs.declared.aims.Act.the-variants.{Receive, BuildKsm, BuildRsi, GiveUp, Remove, Ask, Load}
 use Rattle.sight.specs.declared.aims.Aim.{Aim}
 use Rattle.sight.specs.declared.Sight.{Sight}
-use Rattle.sight.specs.Request.{request-in}
+use Rattle.request.specs.Request.{request-in}
 use Rattle.sight.specs.Asked.{call-of}
 use Rattle.turn.specs.Way.{refusal, turn, take}
 use Rattle.card.specs.Claims.{In-place}

@@ -5,7 +5,7 @@ ghost use mathlib.Core.Path.{_≡_};
 ghost use lib.ListN.{length};
 ghost use Rattle.calls.specs.Calls as calls;
 ghost use Rattle.sight.specs.Aim as aims-of;
-ghost use Rattle.sight.specs.Request as requests;
+ghost use Rattle.request.specs.Request as requests;
 ghost use Rattle.card.specs.Over as over;
 ghost use Rattle.card.specs.Whole as whole;
 ghost use Rattle.card.specs.Ways as ways;
@@ -161,7 +161,7 @@ pub fn load(image: &[u8], partner: &[u8], name: &[u8], key: &[u8], out: &mut [u8
     if found.answer != 0 {
         return outcome::refusal(found.answer);
     }
-    let e = partner::loaded(aim.partner, partner::name_of(named), top);
+    let e = changes::loaded(aim.partner, partner::name_of(named), top);
     outcome::told_nothing(image::load_slot(image, found.slot, e, out))
 }
 

@@ -3,10 +3,5 @@ pub mod Linear
 pub mod Permutations
 pub mod Laws
 pub mod Parity
-pub mod Picks
-pub mod Substitution
-pub mod Exchanges
-pub mod Walks
 pub mod Blocks
 pub mod Vectors
-pub mod Determined

@@ -2,4 +2,3 @@ pub mod Tables
 pub mod Dea
 pub mod Chain
 pub mod Claims
-pub mod Words

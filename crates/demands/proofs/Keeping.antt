@@ -31,7 +31,7 @@ use Rattle.calls.specs.Calls as steps
 use Rattle.calls.specs.Claims.{Carries, Answers-text, Answers, Writes, Sized, subject}
 use Rattle.calls.proofs.Claims as call
 use Rattle.calls.proofs.Tables.{legal-parts, own-name, entry-held}
-use Rattle.sight.specs.Request.{no-request, request-layout, request-size, whole-in, request-in}
+use Rattle.request.specs.Request.{no-request, request-layout, request-size, whole-in, request-in}
 use Rattle.card.specs.Whole.{top-in}
 use Rattle.card.specs.Claims.{Of-64-bits}
 use Rattle.card.proofs.Fitting.{name-octets}

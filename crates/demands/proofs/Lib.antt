@@ -7,7 +7,6 @@ pub mod First
 pub mod Starting
 pub mod Second
 pub mod Silence
-pub mod Contracts
 pub mod Ends
 pub mod Runs
 pub mod Reached

@@ -18,7 +18,7 @@ use Rattle.image.proofs.Claims.{claims}
 use Rattle.calls.specs.Calls.{entry-of}
 use Rattle.calls.specs.Good.{Good-request}
 use Rattle.calls.specs.Steps.{Partners}
-use Rattle.sight.specs.Request.{request-in}
+use Rattle.request.specs.Request.{request-in}
 use Rattle.line.specs.Line.{_∈_, texts, entry-for}
 use Rattle.demands.specs.Face.{receive, build-ksm, put-out, kept, sent}
 use Rattle.demands.specs.Terms.{Bytes, Exchange, built, taken, confirming, Exchanged}

@@ -33,7 +33,7 @@ use Rattle.calls.proofs.Refusals.{refusals}
 use Rattle.calls.proofs.Numbers.{numbers}
 use Rattle.outcome.specs.Report.{report}
 use Rattle.host.specs.Report.{report-bytes}
-use Rattle.sight.specs.Request.{request-in}
+use Rattle.request.specs.Request.{request-in}
 use Rattle.card.proofs.Tables.{own-is}
 use Rattle.demands.specs.Face.{Call, receive, build-ksm, ask, Left, left, leaves, start-leaves, put-out, kept}
 use Rattle.demands.specs.Terms.{Bytes, Of-bytes, our-identity, in-table, entry-stored, entry-told, refused}

@@ -29,7 +29,7 @@ use Rattle.calls.proofs.Tests.{by-case, if-false}
 use Rattle.calls.proofs.Slots.{put-found}
 use Rattle.calls.proofs.Tables.{entry-held}
 use Rattle.calls.proofs.Claims as call
-use Rattle.sight.specs.Request.{request-in}
+use Rattle.request.specs.Request.{request-in}
 use Rattle.card.specs.Whole.{delivering}
 use Rattle.card.specs.Claims.{Of-64-bits}
 use Rattle.card.proofs.Staying.{run-long}

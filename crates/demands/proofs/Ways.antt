@@ -25,7 +25,7 @@ use Rattle.calls.specs.Calls as steps
 use Rattle.calls.specs.Good.{Good-identity}
 use Rattle.calls.proofs.Tests.{if-true, if-false}
 use Rattle.calls.proofs.Refusals.{refusals}
-use Rattle.sight.specs.Request.{request-in}
+use Rattle.request.specs.Request.{request-in}
 use Rattle.card.specs.Over.{outcome-over, image-over}
 use Rattle.card.specs.Whole.{body-of, ask-over, start-over, delivering, top-in, load-with, load-over, remove-over}
 use Rattle.line.specs.Line.{_∈_}

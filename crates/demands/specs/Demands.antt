@@ -1,4 +1,5 @@
--- The three demands about the C face, each sentence with its theorem. Proved as `demands` in proofs/Demands.antt.
+-- The three demands about the C face, each sentence with its theorem. Proved as `demands` in proofs/Demands.antt; that the
+-- code of the face does what is said of it here is the last page, firmware/specs/Firmware.antt.
 use mathlib.Core.Path.{_≡_}
 use mathlib.Core.Bool.{true, false}
 use mathlib.Core.Logic.{_≢_, _↔_}
@@ -24,12 +25,11 @@ use Rattle.calls.specs.Claims as calls
 use Rattle.calls.specs.Steps as step
 use Rattle.calls.specs.Refusals as refusing
 use Rattle.calls.specs.Numbers as numbers
-use Rattle.sight.specs.Request.{request-in}
+use Rattle.request.specs.Request.{request-in}
 use Rattle.card.specs.Whole.{top-in}
 use Rattle.line.specs.Line.{_∈_, Rising}
 use Rattle.line.specs.Line as line
 use Rattle.demands.specs.Face.{Call, receive, ask, load, leaves, start-leaves, put-out, kept}
-use Rattle.demands.specs.Contracts.{Contracts, Code}
 use Rattle.demands.specs.Terms.{Bytes, Of-bytes, our-identity, entry-stored, entry-told, answers-of, refused}
 use Rattle.demands.specs.Terms.{Complains, room-for, step-of, As-the-steps, Exchange, Exchanged}
 use Rattle.demands.specs.Hosts.{Hosts, Allowed, Fresh, Afresh, Reach, Distinct, Agreed, Loaded, Confirms}
@@ -144,10 +144,7 @@ pub record Demand-3 (a b name : Text) (top : Top) : Type 0 where
   -- the same of the cards' tables; an old ESM after a resend is harmless
   pub cards : line.Claims a b name top
 
-pub record Demands : Type 2 where
-  -- the code of each `khl_*` meets its contract, and `leaves` is what the contracts say
-  pub code : Code
-  pub contracts : Contracts
+pub record Demands : Type 0 where
   pub demand-1 : Demand-1
   pub demand-2 : Demand-2
   pub demand-3 : (a b name : Text) (top : Top) → Demand-3 a b name top

@@ -11,7 +11,7 @@ use Rattle.calls.specs.Outcome.{Outcome}
 use Rattle.calls.specs.Calls as steps
 use Rattle.outcome.specs.Report.{report, replied}
 use Rattle.host.specs.Report.{report-bytes}
-use Rattle.sight.specs.Request.{request-in}
+use Rattle.request.specs.Request.{request-in}
 use Rattle.card.specs.Over.{outcome-over, image-over}
 use Rattle.card.specs.Whole.{ask-over, start-over, load-over, remove-over}
 use Rattle.line.specs.Line.{texts}

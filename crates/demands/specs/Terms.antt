@@ -25,7 +25,7 @@ use Rattle.calls.specs.Results.{Keeps}
 use Rattle.calls.specs.Steps.{iv-asked, date-asked}
 use Rattle.outcome.specs.Report.{report, replied}
 use Rattle.host.specs.Report.{report-bytes}
-use Rattle.sight.specs.Request.{request-in}
+use Rattle.request.specs.Request.{request-in}
 use Rattle.card.specs.Whole.{delivering, top-in}
 use Rattle.demands.specs.Face.{Call, receive, build-ksm, build-rsi, ask, give-up, load, remove, Left, leaves}
 use Rattle.demands.specs.Face.{put-out, kept}

@@ -8,7 +8,7 @@ ghost use Rattle.calls.specs.Calls as calls;
 ghost use Rattle.card.specs.Over as over;
 ghost use Rattle.card.specs.Whole as whole;
 ghost use Rattle.host.specs.Report as reports;
-ghost use Rattle.sight.specs.Request as requests;
+ghost use Rattle.request.specs.Request as requests;
 ghost use Rattle.host.specs.Contracts as contracts;
 use outcome::Report;
 
@@ -143,7 +143,7 @@ pub extern "C" fn khl_remove(
 pub extern "C" fn khl_test_encipher(key: u64, block: u64) -> u64
     ensures { λ r. ⌜ r ≡ dea.encipher key block ⌝ }
 {
-    dea::encipher(key, block)
+    cipher::encipher(key, block)
 }
 
 // For tests: a block deciphered under a key.
@@ -151,7 +151,7 @@ pub extern "C" fn khl_test_encipher(key: u64, block: u64) -> u64
 pub extern "C" fn khl_test_decipher(key: u64, block: u64) -> u64
     ensures { λ r. ⌜ r ≡ dea.decipher key block ⌝ }
 {
-    dea::decipher(key, block)
+    cipher::decipher(key, block)
 }
 
 // For tests: the MAC of a text under a key.
@@ -159,5 +159,5 @@ pub extern "C" fn khl_test_decipher(key: u64, block: u64) -> u64
 pub extern "C" fn khl_test_mac(key: u64, text: &[u8]) -> u32
     ensures { λ r. ⌜ r ≡ mac.mac key (now (text .entry)) ⌝ }
 {
-    keying::mac(key, text)
+    sealing::mac(key, text)
 }

@@ -111,7 +111,7 @@ fn front_legal(image: &[u8]) -> bool
         return false;
     }
     let own = own_identity(image);
-    partner::is_filled(own) && is_apart(image, 1, FRONT_SIZE, SLOTS)
+    rules::is_filled(own) && is_apart(image, 1, FRONT_SIZE, SLOTS)
 }
 
 // Whether the record at a place is, with `left` behind it: an empty slot, or a legal entry with an identity of its own.

@@ -1,9 +1,4 @@
-pub mod Determined
-pub mod Ones
-pub mod Tests
-pub mod Calendar
 pub mod Characters
-pub mod Notaries
 pub mod Laws
 pub mod Numbers
 pub mod Examples

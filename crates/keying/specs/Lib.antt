@@ -3,7 +3,6 @@ pub mod Keys
 pub mod Working
 pub mod Mac
 pub mod Iv
-pub mod Date
 pub mod Numbers
 pub mod Examples
 pub mod Claims

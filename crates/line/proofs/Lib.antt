@@ -12,7 +12,3 @@ pub mod CardLaws
 pub mod CardKept
 pub mod CardFresh
 pub mod Theorem
-pub mod ExampleCards
-pub mod ExampleRuns
-pub mod ExampleLate
-pub mod ExampleAsked

@@ -35,7 +35,7 @@ fn seal(reply: &mut [u8], n: usize, mac_key: u64) -> usize
     requires { ⌜ (4 ≤ n) × (n ≤ length (now reply)) ⌝ }
     ensures { λ r. ⌜ Wrote (parts.sealed-front n «mac_key» (now (reply .entry))) (now (reply .entry)) (now (reply .exit)) r ⌝ }
 {
-    let m = keying::mac(mac_key, &reply[4..n]);
+    let m = sealing::mac(mac_key, &reply[4..n]);
     let a = n + writer::put_mac(&mut reply[n..], m);
     a + writer::put_text(&mut reply[a..], b")")
 }

@@ -31,6 +31,13 @@ both false b e = absurd (true≢false (sym e))
 pub join : {a b : Bool} → a ≡ true → b ≡ true → a && b ≡ true
 join {a} {b} h k = ap (λ (x : Bool). x && b) h ∙ k
 
+-- what two tests give where the first holds, and where it does not
+pub and-then : (a b : Bool) {r : Bool} → a ≡ true → r ≡ b → r ≡ (a && b)
+and-then a b t e = rw t e
+
+pub and-else : (a b : Bool) {r : Bool} → a ≡ false → r ≡ false → r ≡ (a && b)
+and-else a b t e = rw t e
+
 -- two truths that follow from each other are one
 pub iff : (a b : Bool) → (a ≡ true → b ≡ true) → (b ≡ true → a ≡ true) → a ≡ b
 iff true b f g = sym (f refl)

@@ -150,5 +150,5 @@ pub fn told_failure(letters: u64) -> Report
 pub fn is_sound(own: &[u8], e: Entry) -> bool
     ensures { λ r. ⌜ r ≡ acts.sound (now (own .entry)) e ⌝ }
 {
-    octets::is_name(own) && partner::legal(e)
+    octets::is_name(own) && rules::legal(e)
 }

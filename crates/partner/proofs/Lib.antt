@@ -1,5 +1,4 @@
 pub mod Naming
-pub mod Spacing
 pub mod Storing
 pub mod Ruling
 pub mod Keeping

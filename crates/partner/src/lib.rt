@@ -1,30 +1,10 @@
-// One partner's entry in units: its top key, what it sends, what it receives; when it is legal, and the changes that the
-// steps make.
+// One partner's entry in units: its top key, what it sends, what it receives. Whether it is legal is judged by `rules`, and
+// the steps change it by `changes`.
 ghost use mathlib.Core.Path.{_≡_};
 ghost use Rattle.keying.specs.Keys.{listed};
 ghost use Rattle.partner.specs.Entry as entry;
-
-mod changes;
-mod rules;
-
-pub use changes::accepted;
-pub use changes::failed;
-pub use changes::given_up;
-pub use changes::issued;
-pub use changes::loaded;
-pub use changes::settled;
-pub use changes::with_receiving;
-pub use changes::with_sending;
 use keying::DataKeys;
 use keying::Top;
-pub use rules::broken;
-pub use rules::is_filled;
-pub use rules::is_named;
-pub use rules::is_unused;
-pub use rules::legal;
-pub use rules::receiving_right;
-pub use rules::sending_right;
-pub use rules::top_right;
 
 // Counts end here.
 pub const LIMIT: u32 = 99_999_999;

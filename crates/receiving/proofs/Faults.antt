@@ -10,7 +10,7 @@ use lib.ListN.{length}
 use borrow.Author.Tests.{ne-eqb}
 use Rattle.octets.specs.Text.{Text}
 use Rattle.octets.specs.Part.{found, part}
-use Rattle.keying.specs.Date.{is-date}
+use Rattle.dates.specs.Date.{is-date}
 use Rattle.csm.specs.Fields.{nonempty}
 use Rattle.csm.specs.Message.{Ksm}
 use Rattle.reader.specs.declared.Ksm as reader

@@ -1,9 +1,8 @@
 -- The stages of receive, in the code's values: what each hands on, or the letters with which it refuses.
-use mathlib.Core.Path.{_≡_}
 use mathlib.Core.Bool.{Bool, true, false, cond, not, _||_}
 use mathlib.Core.List.{List, []}
 use mathlib.Core.Option.{Option, none, some}
-use Prim.Native.Nat.{ℕ, _≤_}
+use Prim.Native.Nat.{ℕ}
 use lib.Dec.{eqb}
 use lib.ListN.{length}
 use Rattle.octets.specs.Text.{Text, same}
@@ -13,7 +12,7 @@ use Rattle.octets.specs.Wrote.{over}
 use Rattle.keying.specs.declared.Top.{Top}
 use Rattle.keying.specs.Working.{working}
 use Rattle.keying.specs.Mac.{mac-key, mac}
-use Rattle.keying.specs.Date.{is-date}
+use Rattle.dates.specs.Date.{is-date}
 use Rattle.csm.specs.Fields.{nonempty, named}
 use Rattle.csm.specs.Message.{Ksm}
 use Rattle.csm.specs.Covered.{covered}

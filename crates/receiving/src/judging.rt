@@ -42,7 +42,7 @@ fn iv_value(keys: DataKeys, w: &[u8]) -> Value
         return Value::Is(value);
     }
     if w[0] == b'E' {
-        return Value::Is(keying::reveal(keys, value));
+        return Value::Is(sealing::reveal(keys, value));
     }
     Value::Nothing
 }
@@ -70,7 +70,7 @@ fn bad_format(iv: &[u8], value: Value, edk: &[u8]) -> bool
     if edk.len() == 0 {
         return false;
     }
-    !keying::is_date(edk)
+    !dates::is_date(edk)
 }
 
 // M: whether the MAC differs.
@@ -78,8 +78,8 @@ pub(crate) fn bad_mac(keys: DataKeys, text: &[u8], mac: Numeral) -> bool
     requires { ⌜ texts.Sealed (mac .span) (now text) ⌝ }
     ensures { λ r. ⌜ r ≡ stages.bad-mac (listed keys) (now (text .entry)) (mac .value) ⌝ }
 {
-    keying::mac(
-        keying::mac_key(keys),
+    sealing::mac(
+        sealing::mac_key(keys),
         octets::part(text, reader::covered(mac.span)),
     ) as u64
         != mac.value

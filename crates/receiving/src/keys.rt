@@ -71,7 +71,7 @@ fn uneven(p: bool, key: u64) -> bool
     if !p {
         return false;
     }
-    !keying::odd(key)
+    !sealing::odd(key)
 }
 
 // The message's working key, plain or notarized from the partner to us.
@@ -79,7 +79,7 @@ fn working_key(own: &[u8], e: Entry, m: Ksm) -> Top
     ensures { λ r. ⌜ r ≡ stages.working-key (now (own .entry)) e m ⌝ }
 {
     let identity = e.identity;
-    keying::working(
+    notary::working(
         m.nos,
         octets::bare(&identity.bytes),
         own,
@@ -98,7 +98,7 @@ pub(crate) fn open_keys(own: &[u8], e: Entry, text: &[u8], m: Ksm) -> Opened
     let key = working_key(own, e, m);
     let kd = m.first;
     let other = m.second;
-    let plain = keying::unseal(
+    let plain = sealing::unseal(
         key,
         Blocks {
             first: kd.key,

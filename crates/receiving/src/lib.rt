@@ -52,7 +52,7 @@ fn receive_ksm(own: &[u8], e: Entry, text: &[u8], m: Ksm, reply: &mut [u8]) -> T
     }
     let mut report = judged.report;
     report.length = replies::confirm(own, e, set, reply);
-    let entry = partner::with_receiving(e, partner::accepted(m.ctp.value as u32, set));
+    let entry = changes::with_receiving(e, changes::accepted(m.ctp.value as u32, set));
     Turned { entry, report }
 }
 
@@ -82,7 +82,7 @@ fn receive_rsm(own: &[u8], e: Entry, text: &[u8], m: Rsm, reply: &mut [u8]) -> T
         };
     }
     Turned {
-        entry: partner::with_sending(e, partner::settled(sending)),
+        entry: changes::with_sending(e, changes::settled(sending)),
         report: outcome::told_confirmation(),
     }
 }
@@ -93,9 +93,9 @@ fn after_esm(s: Sending, ctp: Optional) -> Sending
     ensures { λ r. ⌜ r ≡ stages.after-count s (texts.option-in ctp) ⌝ }
 {
     if ctp.there {
-        return partner::failed(s, ctp.value as u32);
+        return changes::failed(s, ctp.value as u32);
     }
-    partner::given_up(s)
+    changes::given_up(s)
 }
 
 // An ESM: not waiting, 5; otherwise 0: phase 3, keys wiped, next send the larger of itself and CTP.
@@ -109,7 +109,7 @@ fn receive_esm(e: Entry, m: Esm) -> Turned
     }
     let ctp = m.ctp;
     Turned {
-        entry: partner::with_sending(e, after_esm(sending, ctp)),
+        entry: changes::with_sending(e, after_esm(sending, ctp)),
         report: outcome::told_failure(m.erf.value),
     }
 }

@@ -32,6 +32,6 @@ pub(crate) fn confirm(own: &[u8], e: Entry, set: KeySet, reply: &mut [u8]) -> us
     ensures { λ r. ⌜ now (reply .exit) ≡ steps.rsm-text (now (own .entry)) e set ++ drop (length (steps.rsm-text (now (own .entry)) e set)) (now (reply .entry)) ⌝ }
 {
     let identity = e.identity;
-    let key = keying::mac_key(partner::data_keys(set));
+    let key = sealing::mac_key(partner::data_keys(set));
     messages::length_of(messages::write_rsm(reply, octets::bare(&identity.bytes), own, key))
 }

@@ -17,9 +17,9 @@ fn place_formed(s: &[u8], at: usize, used: bool) -> bool
     let name = at + 8;
     let end = name + 16;
     if used {
-        return partner::is_named(&s[name..end]);
+        return rules::is_named(&s[name..end]);
     }
-    partner::is_unused(crate::number_in(s, 8, at), &s[name..end])
+    rules::is_unused(crate::number_in(s, 8, at), &s[name..end])
 }
 
 // Both places of a key set.
@@ -36,7 +36,7 @@ fn front_right(s: &[u8]) -> bool
     requires { ⌜ stored.entry-size ≤ length (now s) ⌝ }
     ensures { λ r. ⌜ r ≡ rule.is-filled (stored.entry-in (now (s .entry)) .identity .bytes) && unit.top-right (stored.entry-in (now (s .entry)) .top) ⌝ }
 {
-    partner::is_filled(&s[..crate::TOP]) & partner::top_right(crate::top_in(s, crate::TOP))
+    rules::is_filled(&s[..crate::TOP]) & rules::top_right(crate::top_in(s, crate::TOP))
 }
 
 // Whether s is a whole record, and its entry legal.
@@ -47,13 +47,13 @@ pub fn is_legal(s: &[u8]) -> bool
         return false;
     }
     front_right(s)
-        & partner::sending_right(
+        & rules::sending_right(
             crate::count_in(s, crate::NEXT),
             crate::byte_in(s, crate::PHASE),
             crate::byte_in(s, crate::OUTGOING),
         )
         & set_formed(s, crate::OUTGOING)
-        & partner::receiving_right(
+        & rules::receiving_right(
             crate::count_in(s, crate::EXPECTED),
             crate::byte_in(s, crate::INCOMING),
         )

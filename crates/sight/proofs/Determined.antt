@@ -39,6 +39,3 @@ aim-of κs a x y v w p q = (alike p q, refl)
 
 pub with-room : One-outcome fn.aims.with_room.ended fn.aims.with_room.Reads.Post
 with-room κs a x y v w p q = (alike p q, refl)
-
-pub request-in : One-outcome fn.request.request_in.ended fn.request.request_in.Reads.Post
-request-in κs a x y v w p q = (alike p q, refl)

@@ -1,5 +1,3 @@
-pub mod Requests
-pub mod Examples
 pub mod Aiming
 pub mod Seeing
 pub mod Rows

@@ -4,7 +4,7 @@ use Rattle.octets.specs.Text.{Text}
 use Rattle.calls.specs.Calls.{Call, receive, about, load, build-ksm, build-rsi, give-up, remove, ask}
 use Rattle.sight.specs.declared.aims.Act.{Act}
 use Rattle.sight.specs.declared.aims.Act.the-variants.{Receive, BuildKsm, BuildRsi, GiveUp, Remove, Ask, Load}
-use Rattle.sight.specs.Request.{request-in}
+use Rattle.request.specs.Request.{request-in}
 
 -- with the room for a reply, whom it is about, and the text that goes with it: what came, the request's bytes, the contents
 -- of SVR, or the new key's name

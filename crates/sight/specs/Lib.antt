@@ -1,6 +1,4 @@
-pub mod Request
 pub mod Aim
 pub mod Asked
 pub mod Table
 pub mod Sight
-pub mod Examples

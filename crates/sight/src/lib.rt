@@ -6,7 +6,6 @@ ghost use Rattle.partner.specs.Table.{is-empty};
 ghost use Rattle.sight.specs.Sight as sights;
 
 pub mod aims;
-pub mod request;
 
 use aims::Aim;
 use partner::Entry;
@@ -80,7 +79,7 @@ fn slot_legal(aim: Aim, e: Entry, apart: bool) -> bool
     if is_named(e, aim.own) {
         return false;
     }
-    partner::legal(e)
+    rules::legal(e)
 }
 
 // Whether a slot is the partner's.

@@ -27,7 +27,7 @@ use Rattle.sight.specs.declared.Sight.{Sight}
 use Rattle.sight.specs.declared.Glance.{Glance}
 use Rattle.sight.specs.Aim.{with-room, aim-of}
 use Rattle.sight.specs.Asked.{call-of}
-use Rattle.sight.specs.Request.{request-in}
+use Rattle.request.specs.Request.{request-in}
 use Rattle.sight.specs.Table.{over-row}
 use Rattle.sight.proofs.Sees.{Sees}
 use Rattle.turn.specs.Way.{unfit, by-act, glance, refusal, turn, take}

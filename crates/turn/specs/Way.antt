@@ -19,7 +19,7 @@ use Rattle.sight.specs.declared.aims.Act.the-variants.{Receive, BuildKsm, Build
 use Rattle.sight.specs.declared.aims.Aim.{Aim}
 use Rattle.sight.specs.declared.Sight.{Sight}
 use Rattle.sight.specs.declared.Glance.{Glance}
-use Rattle.sight.specs.Request.{request-in}
+use Rattle.request.specs.Request.{request-in}
 
 -- ---- the order of the answers
 

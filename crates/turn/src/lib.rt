@@ -13,7 +13,6 @@ use sight::Glance;
 use sight::Sight;
 use sight::aims::Act;
 use sight::aims::Aim;
-use sight::request;
 
 // ---- the order of the answers
 
@@ -57,7 +56,7 @@ pub fn refusal(aim: Aim, glance: Glance, act: Act, text: &[u8], room: usize) -> 
     let a = octets::then(0, !glance.legal, 13);
     let b = octets::then(a, room < aim.room, 6);
     match act {
-        Act::Load(top) => loading(b, aim, glance, octets::is_name(text), keying::odd_top(top)),
+        Act::Load(top) => loading(b, aim, glance, octets::is_name(text), sealing::odd_top(top)),
         _ => looking_up(b, aim, glance),
     }
 }
@@ -86,7 +85,7 @@ pub fn turn(own: &[u8], partner: Name, e: Entry, act: Act, text: &[u8], reply: &
         Act::GiveUp => building::give_up(e),
         Act::Remove => plain(partner::empty()),
         Act::Ask => plain(e),
-        Act::Load(top) => plain(partner::loaded(partner, partner::name_of(text), top)),
+        Act::Load(top) => plain(changes::loaded(partner, partner::name_of(text), top)),
     }
 }
 

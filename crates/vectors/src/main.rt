@@ -57,13 +57,13 @@ fn alone(block: u64) -> Blocks {
 
 // A data key under a working key.
 fn seal(key: Top, plain: u64) -> u64 {
-    let sealed = keying::seal(key, alone(plain));
+    let sealed = sealing::seal(key, alone(plain));
     sealed.first
 }
 
 // A data key from under a working key.
 fn unseal(key: Top, sealed: u64) -> u64 {
-    let plain = keying::unseal(key, alone(sealed));
+    let plain = sealing::unseal(key, alone(sealed));
     plain.first
 }
 
@@ -76,16 +76,16 @@ fn answer(operation: u8, org: &[u8], rcv: &[u8], numbers: Numbers) -> u64 {
     let count = numbers.count;
     let block = numbers.block;
     match operation {
-        b'E' => dea::encipher(numbers.left, block),
-        b'D' => dea::decipher(numbers.left, block),
-        b'S' => seal(keying::working(false, org, rcv, single, count), block),
-        b'U' => unseal(keying::working(false, org, rcv, single, count), block),
-        b'T' => seal(keying::working(false, org, rcv, pair, count), block),
-        b'V' => unseal(keying::working(false, org, rcv, pair, count), block),
-        b'N' => seal(keying::working(true, org, rcv, single, count), block),
-        b'O' => unseal(keying::working(true, org, rcv, single, count), block),
-        b'P' => seal(keying::working(true, org, rcv, pair, count), block),
-        b'Q' => unseal(keying::working(true, org, rcv, pair, count), block),
+        b'E' => cipher::encipher(numbers.left, block),
+        b'D' => cipher::decipher(numbers.left, block),
+        b'S' => seal(notary::working(false, org, rcv, single, count), block),
+        b'U' => unseal(notary::working(false, org, rcv, single, count), block),
+        b'T' => seal(notary::working(false, org, rcv, pair, count), block),
+        b'V' => unseal(notary::working(false, org, rcv, pair, count), block),
+        b'N' => seal(notary::working(true, org, rcv, single, count), block),
+        b'O' => unseal(notary::working(true, org, rcv, single, count), block),
+        b'P' => seal(notary::working(true, org, rcv, pair, count), block),
+        b'Q' => unseal(notary::working(true, org, rcv, pair, count), block),
         _ => 0,
     }
 }
@@ -137,7 +137,7 @@ fn tell_mac(line: &[u8], text: &mut [u8]) {
         return;
     }
     io::read_full(0, &mut text[0..n]);
-    let mac = keying::mac(hex(&line[2..18]), &text[0..n]);
+    let mac = sealing::mac(hex(&line[2..18]), &text[0..n]);
     io::write_all(1, &text[0..n]);
     io::write_all(1, b" ");
     io::print_hex(1, mac as u64, 8);

@@ -3,7 +3,7 @@ use mathlib.Core.Path.{_≡_, sym, ap, _∙_}
 use mathlib.Core.Bool.{not, _&&_}
 use lib.Dec.{eqb}
 use borrow.Author.Tests.{lt-ltb, le-ltb, eq-eqb, ne-eqb}
-use Rattle.keying.specs.Date.{is-date}
+use Rattle.dates.specs.Date.{is-date}
 use Rattle.calls.specs.Build.{malformed}
 use borrow.Author.Needs.{needs}
 use Rattle.building.proofs.request.malformed.Statement.{statement}

@@ -1,0 +1,4 @@
+pub mod Determined
+pub mod Digits
+pub mod Calendar
+pub mod Numbers

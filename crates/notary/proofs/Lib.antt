@@ -1,0 +1,2 @@
+pub mod Notaries
+pub mod Determined

@@ -1,0 +1,3 @@
+pub mod Names
+pub mod Examples
+pub mod Determined

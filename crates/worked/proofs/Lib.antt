@@ -1,0 +1,5 @@
+pub mod Exchange
+pub mod Cards
+pub mod Runs
+pub mod Late
+pub mod Asked
