@@ -3,7 +3,7 @@
 
 help:
 	@echo 'make run        build the card and its line program, and show two cards exchanging keys over a bad line'
-	@echo 'make test       prove every crate, try every must-fail edit, run every test (under half an hour)'
+	@echo 'make test       prove every crate, try every must-fail edit, run every test (half an hour and more)'
 	@echo 'make line       build the line program: target/host/line --help'
 	@echo 'make lister     list the messages on standard input, one to a line'
 	@echo 'make rehearsal  two cards over lent rows exchange keys in memory'

@@ -241,6 +241,8 @@ def lock_echo(terminal_file):
 
 
 def own(terminal_file):
+    # a program that was started in the background would ignore Ctrl-C
+    signal.signal(signal.SIGINT, signal.SIG_DFL)
     os.setsid()
     fcntl.ioctl(terminal_file, termios.TIOCSCTTY, 0)
 
