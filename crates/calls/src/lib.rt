@@ -6,7 +6,7 @@ pub mod letters;
 pub const ROOM: usize = 256;
 
 // A data key of a request: the key, flags (bit 0: marked P, bit 1: IDK1 written, bit 2: IDK2 written), the name for IDK1.
-#[derive(Drop)]
+#[derive(Clone, Copy)]
 pub struct KeyRequest {
     pub key: u64,
     pub flags: u8,
@@ -14,14 +14,14 @@ pub struct KeyRequest {
 }
 
 // A date of 12 digits.
-#[derive(Drop)]
+#[derive(Clone, Copy)]
 pub struct Date {
     pub digits: [u8; 12],
 }
 
 // How many keys, two places for them, the IV's kind (0 none, 1 plain, 2 enciphered) and value, whether there is a date, and
 // whether the keys are notarized.
-#[derive(Drop)]
+#[derive(Clone, Copy)]
 pub struct Request {
     pub count: u8,
     pub first: KeyRequest,

@@ -33,7 +33,7 @@ fn aim_in(image: &[u8], who: &[u8], act: Act, text: &[u8], room: usize) -> Aim
 }
 
 // What was looked up: the refusal that comes before the turn, or 0, and the number of the slot that is sought.
-#[derive(Drop)]
+#[derive(Clone, Copy)]
 struct Lookup {
     answer: u32,
     slot: usize,

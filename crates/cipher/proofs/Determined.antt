@@ -2,22 +2,23 @@
 use mathlib.Core.Path.{refl}
 use Rattle.octets.specs.One.{OneOutcome}
 use Rattle.octets.proofs.Alike.{alike}
+use Rattle.cipher.specs.contracts as contract
 use Rattle.cipher.proofs as fn
 
-pub key_schedule : OneOutcome fn.key_schedule.ended fn.key_schedule.Reads.Post
+pub key_schedule : OneOutcome contract.key_schedule.ended fn.key_schedule.Reads.Post
 key_schedule κs a x y v w p q = (alike p q, refl)
 
-pub encipher_with : OneOutcome fn.encipher_with.ended fn.encipher_with.Reads.Post
+pub encipher_with : OneOutcome contract.encipher_with.ended fn.encipher_with.Reads.Post
 encipher_with κs a x y v w p q = (alike p q, refl)
 
-pub decipher_with : OneOutcome fn.decipher_with.ended fn.decipher_with.Reads.Post
+pub decipher_with : OneOutcome contract.decipher_with.ended fn.decipher_with.Reads.Post
 decipher_with κs a x y v w p q = (alike p q, refl)
 
-pub encipher : OneOutcome fn.encipher.ended fn.encipher.Reads.Post
+pub encipher : OneOutcome contract.encipher.ended fn.encipher.Reads.Post
 encipher κs a x y v w p q = (alike p q, refl)
 
-pub decipher : OneOutcome fn.decipher.ended fn.decipher.Reads.Post
+pub decipher : OneOutcome contract.decipher.ended fn.decipher.Reads.Post
 decipher κs a x y v w p q = (alike p q, refl)
 
-pub chain : OneOutcome fn.chain.ended fn.chain.Reads.Post
+pub chain : OneOutcome contract.chain.ended fn.chain.Reads.Post
 chain κs a x y v w p q = (alike p q, refl)

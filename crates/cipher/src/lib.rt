@@ -1,4 +1,6 @@
 // The Data Encryption Algorithm of FIPS 46.
+#![tactic(auto)]
+
 ghost use Rattle.std.specs.Prelude.{◌≡◌, List, [], reverse, ◌+◌, ◌-◌, ◌*◌, ◌/◌, ◌%◌, ◌^◌, ◌<◌, ◌≤◌, length, get_or, T};
 ghost use Rattle.dea.specs.Tables.{IP, IP⁻¹, E, P, PC_1, PC_2, shifts, boxes as selections};
 ghost use Rattle.dea.specs.Dea as dea;

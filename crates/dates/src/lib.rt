@@ -1,4 +1,6 @@
 // Dates: whether the twelve characters of an EDK are one.
+#![tactic(auto)]
+
 ghost use Rattle.std.specs.Prelude.{◌≡◌, true, ◌+◌, ◌<◌};
 ghost use Rattle.octets.specs.Text.{is_run, within};
 ghost use Rattle.dates.specs.Date.{leap, days_in, is_day, is_time, digit, two, is_date};

@@ -12,14 +12,14 @@ use super::words::numeral;
 use octets::Span;
 
 // What contents are as a KD.
-#[derive(Drop)]
+#[derive(Clone, Copy)]
 pub enum Keyed {
     Is(Kd),
     Nothing,
 }
 
 // The subfields of a KD: the mark, and where the names stand.
-#[derive(Drop)]
+#[derive(Clone, Copy)]
 enum Subfields {
     Are { p: bool, idk1: Span, idk2: Span },
     Nothing,

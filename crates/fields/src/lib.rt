@@ -1,4 +1,6 @@
 // One field of a message at a place of the lent text: what its contents stand for, and where they stand.
+#![tactic(auto)]
+
 ghost use Rattle.std.specs.Prelude.{◌≡◌, drop};
 ghost use Rattle.octets.specs.Text.{blank, is_run};
 ghost use Rattle.csm.specs.Format.{plain, upto, pre};
@@ -14,7 +16,7 @@ use octets::Span;
 pub use words::{block, service};
 
 // Where a field's contents stand, and where what follows it starts: nowhere, and where it was sought, if it is missing.
-#[derive(Drop)]
+#[derive(Clone, Copy)]
 pub struct Place {
     pub there: bool,
     pub span: Span,
@@ -22,21 +24,21 @@ pub struct Place {
 }
 
 // The number that contents stand for.
-#[derive(Drop)]
+#[derive(Clone, Copy)]
 pub enum Number {
     Is(u64),
     Nothing,
 }
 
 // A field that stands for a number, zero if it is missing.
-#[derive(Drop)]
+#[derive(Clone, Copy)]
 pub struct NumberField {
     pub value: u64,
     pub place: Place,
 }
 
 // A KD: its key as enciphered, whether it is marked P, and where its contents and its names stand.
-#[derive(Drop)]
+#[derive(Clone, Copy)]
 pub struct Kd {
     pub key: u64,
     pub p: bool,
@@ -46,14 +48,14 @@ pub struct Kd {
 }
 
 // A KD, all of it zero if it is missing.
-#[derive(Drop)]
+#[derive(Clone, Copy)]
 pub struct KeyField {
     pub kd: Kd,
     pub place: Place,
 }
 
 // The class that MCL names.
-#[derive(Drop)]
+#[derive(Clone, Copy)]
 pub enum Class {
     Rsi,
     Ksm,

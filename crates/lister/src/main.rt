@@ -7,14 +7,14 @@ use fields::Class;
 use reader::Message;
 
 // What is listed of a line: its class from 1 on, or 0; its length, or 513 where it is longer than 512.
-#[derive(Drop)]
+#[derive(Clone, Copy)]
 pub struct Row {
     pub class: usize,
     pub bytes: usize,
 }
 
 // Where the lister stands: how many bytes of the line it holds, the lines and the readable ones so far.
-#[derive(Drop)]
+#[derive(Clone, Copy)]
 struct State {
     held: usize,
     lines: u64,

@@ -9,7 +9,7 @@ mod legal;
 mod whole;
 
 // The length of the message written, or that nothing was: the room is under 256 or a part is not legal.
-#[derive(Drop)]
+#[derive(Clone, Copy)]
 pub enum Written {
     Length(usize),
     Nothing,
@@ -26,7 +26,7 @@ pub fn length_of(written: Written) -> usize
 }
 
 // CTP and CTR of an ESM.
-#[derive(Drop)]
+#[derive(Clone, Copy)]
 pub enum Counts {
     Without,
     Both { ctp: u64, ctr: u64 },
@@ -73,7 +73,7 @@ pub fn write_esm(reply: &mut [u8], rcv: &[u8], org: &[u8], letters: u64, counts:
 
 // What a KSM says: whether its keys are notarized, its data key, the second one if there are two, the IV, the date if
 // there is one, and the count.
-#[derive(Drop)]
+#[derive(Clone, Copy)]
 pub struct Ksm {
     pub nos: bool,
     pub first: Key,

@@ -1,5 +1,7 @@
 // Leaves over lent bytes: compare, find, copy to the front of a lent rest, numbers high byte first; and the first test that
 // holds.
+#![tactic(auto)]
+
 ghost use Rattle.std.specs.Prelude.{◌≡◌, ◌+◌, ◌/◌, ◌%◌, ◌^◌, ◌<◌, min, length, drop};
 ghost use Rattle.octets.specs.Text as text;
 ghost use Rattle.octets.specs.Part as part;
@@ -98,7 +100,7 @@ pub fn until(s: &[u8], at: usize, x: u8) -> usize
 }
 
 // Where a part of a text stands, and how long it is.
-#[derive(Drop)]
+#[derive(Clone, Copy)]
 pub struct Span {
     pub at: usize,
     pub length: usize,

@@ -19,7 +19,7 @@ pub const ESM: u8 = 4;
 // A call's answer, the letters of an error, ours or those of an ESM that was taken, the length of its reply; the class of
 // the message read, 1 an RSI, 2 a KSM, 3 an RSM, 4 an ESM, else 0; the service that an RSI wants, from 1 on, else 0; IV and
 // date of a KSM, each with a presence of its own, zero where there is none.
-#[derive(Drop)]
+#[derive(Clone, Copy)]
 pub struct Report {
     pub answer: u32,
     pub letters: u64,
@@ -33,7 +33,7 @@ pub struct Report {
 }
 
 // One partner's entry after a call, and what the call gives.
-#[derive(Drop)]
+#[derive(Clone, Copy)]
 pub struct Turned {
     pub entry: Entry,
     pub report: Report,

@@ -28,20 +28,20 @@ pub const SINGLE: u8 = 1;
 pub const PAIR: u8 = 2;
 
 // A name or an identity, filled with blanks.
-#[derive(Drop)]
+#[derive(Clone, Copy)]
 pub struct Name {
     pub bytes: [u8; 16],
 }
 
 // A data key, with a name or 16 blanks.
-#[derive(Drop)]
+#[derive(Clone, Copy)]
 pub struct DataKey {
     pub key: u64,
     pub name: Name,
 }
 
 // A key set: how many keys it has, and two places for them.
-#[derive(Drop)]
+#[derive(Clone, Copy)]
 pub struct KeySet {
     pub count: u8,
     pub first: DataKey,
@@ -49,7 +49,7 @@ pub struct KeySet {
 }
 
 // A top key as it is kept: its name, its form, the key or the two halves of a pair.
-#[derive(Drop)]
+#[derive(Clone, Copy)]
 pub struct TopKey {
     pub name: Name,
     pub form: u8,
@@ -58,7 +58,7 @@ pub struct TopKey {
 }
 
 // What we send: the next send count, the phase, the outgoing keys.
-#[derive(Drop)]
+#[derive(Clone, Copy)]
 pub struct Sending {
     pub next: u32,
     pub phase: u8,
@@ -66,14 +66,14 @@ pub struct Sending {
 }
 
 // What we receive: the expected count, the incoming keys.
-#[derive(Drop)]
+#[derive(Clone, Copy)]
 pub struct Receiving {
     pub expected: u32,
     pub incoming: KeySet,
 }
 
 // An entry of the partner table; an empty slot is zero throughout.
-#[derive(Drop)]
+#[derive(Clone, Copy)]
 pub struct Entry {
     pub identity: Name,
     pub top: TopKey,

@@ -11,21 +11,21 @@ use fields::{Class, Kd};
 use octets::Span;
 
 // Where RCV and ORG stand.
-#[derive(Drop)]
+#[derive(Clone, Copy)]
 pub struct Head {
     pub rcv: Span,
     pub org: Span,
 }
 
 // A number as it is written: its value, and where its text stands.
-#[derive(Drop)]
+#[derive(Clone, Copy)]
 pub struct Numeral {
     pub value: u64,
     pub span: Span,
 }
 
 // A number that may be missing, and where its text stands: zero and nowhere where it is.
-#[derive(Drop)]
+#[derive(Clone, Copy)]
 pub struct Optional {
     pub there: bool,
     pub value: u64,
@@ -33,7 +33,7 @@ pub struct Optional {
 }
 
 // An RSI: the place of its service among the twelve, and where SVR stands.
-#[derive(Drop)]
+#[derive(Clone, Copy)]
 pub struct Rsi {
     pub head: Head,
     pub service: u64,
@@ -43,7 +43,7 @@ pub struct Rsi {
 
 // A KSM: whether NOS stands there: its keys are notarized; its KDs, the second zero where there is none; where IV and EDK
 // stand, nowhere where there is none; CTP and MAC.
-#[derive(Drop)]
+#[derive(Clone, Copy)]
 pub struct Ksm {
     pub head: Head,
     pub nos: bool,
@@ -57,14 +57,14 @@ pub struct Ksm {
 }
 
 // An RSM.
-#[derive(Drop)]
+#[derive(Clone, Copy)]
 pub struct Rsm {
     pub head: Head,
     pub mac: Numeral,
 }
 
 // An ESM: its letters as a number, A the lowest bit.
-#[derive(Drop)]
+#[derive(Clone, Copy)]
 pub struct Esm {
     pub head: Head,
     pub ctp: Optional,
@@ -74,7 +74,7 @@ pub struct Esm {
 }
 
 // An option: its class and where its rest stands.
-#[derive(Drop)]
+#[derive(Clone, Copy)]
 pub struct Rest {
     pub head: Head,
     pub class: Class,
@@ -82,7 +82,7 @@ pub struct Rest {
 }
 
 // What a text is read as.
-#[derive(Drop)]
+#[derive(Clone, Copy)]
 pub enum Message {
     Rsi(Rsi),
     Ksm(Ksm),
@@ -93,7 +93,7 @@ pub enum Message {
 }
 
 // Both names of the head, if they are there, and where what follows them starts.
-#[derive(Drop)]
+#[derive(Clone, Copy)]
 struct Names {
     there: bool,
     head: Head,

@@ -14,14 +14,14 @@ use partner::{Entry, KeySet};
 use reader::{Ksm, Numeral};
 
 // The letters of F, M and P that hold, and what is reported where none does, before the reply is written.
-#[derive(Drop)]
+#[derive(Clone, Copy)]
 pub(crate) struct Judged {
     pub letters: u64,
     pub report: Report,
 }
 
 // The value of an IV, or nothing.
-#[derive(Drop)]
+#[derive(Clone, Copy)]
 enum Value {
     Is(u64),
     Nothing,

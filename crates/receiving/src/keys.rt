@@ -10,7 +10,7 @@ use partner::{DataKey, Entry, KeySet};
 use reader::Ksm;
 
 // The data keys deciphered, the second zero where there is none, or the letter of the error: I, then K.
-#[derive(Drop)]
+#[derive(Clone, Copy)]
 pub(crate) enum Opened {
     Keys { first: u64, second: u64 },
     Error(u64),

@@ -30,14 +30,14 @@ pub const JUDGE: u8 = 10;
 pub const ROUNDS: usize = 18;
 
 // What a card has put out.
-#[derive(Drop)]
+#[derive(Clone, Copy)]
 pub struct Letter {
     pub bytes: [u8; 256],
     pub length: usize,
 }
 
 // The number of the move, even ALPHA's and odd BRAVO's, and what each put out last.
-#[derive(Drop)]
+#[derive(Clone, Copy)]
 pub struct Scene {
     pub number: usize,
     pub alpha: Letter,

@@ -7,7 +7,7 @@ use partner::Name;
 use reader::{Head, Message};
 
 // What a call asks. The text that came, the request's bytes, the contents of SVR or the new key's name is lent beside it.
-#[derive(Drop)]
+#[derive(Clone, Copy)]
 pub enum Act {
     Receive,
     BuildKsm,
@@ -20,7 +20,7 @@ pub enum Act {
 
 // Our identity and the partner's, filled with blanks, whether each is well-formed, and whether a free slot is sought;
 // the answer that a text gets before its partner is looked up, or 0; the room that is asked for.
-#[derive(Drop)]
+#[derive(Clone, Copy)]
 pub struct Aim {
     pub own: Name,
     pub ours: bool,

@@ -11,7 +11,7 @@ use partner::{Entry, Name};
 
 // Whether the row is legal, whether the partner is in it, and the slot that is sought: whether there is one, where, and
 // its entry.
-#[derive(Drop)]
+#[derive(Clone, Copy)]
 pub struct Sight {
     pub legal: bool,
     pub taken: bool,
@@ -21,7 +21,7 @@ pub struct Sight {
 }
 
 // The part of it that the order of answers asks for.
-#[derive(Drop)]
+#[derive(Clone, Copy)]
 pub struct Glance {
     pub legal: bool,
     pub taken: bool,
@@ -29,7 +29,7 @@ pub struct Glance {
 }
 
 // What was looked up: the answer so far, the number of the slot, and its entry.
-#[derive(Drop)]
+#[derive(Clone, Copy)]
 pub struct Found {
     pub answer: u32,
     pub slot: usize,

@@ -39,7 +39,7 @@ fn hex(s: &[u8]) -> u64 {
 }
 
 // The numbers of a line: the left and the right key, the count and the block.
-#[derive(Drop)]
+#[derive(Clone, Copy)]
 struct Numbers {
     left: u64,
     right: u64,

@@ -2,34 +2,35 @@
 use mathlib.Core.Path.{refl}
 use Rattle.octets.specs.One.{OneOutcome}
 use Rattle.octets.proofs.Alike.{alike, ◌also◌}
+use Rattle.writer.specs.contracts as contract
 use Rattle.writer.proofs as fn
 
-pub put_text : OneOutcome fn.put_text.ended fn.put_text.Reads.Post
+pub put_text : OneOutcome contract.put_text.ended fn.put_text.Reads.Post
 put_text κs a x y v w p q = (alike p.count q.count, alike p.text q.text also refl)
 
-pub put_field : OneOutcome fn.put_field.ended fn.put_field.Reads.Post
+pub put_field : OneOutcome contract.put_field.ended fn.put_field.Reads.Post
 put_field κs a x y v w p q = (alike p.count q.count, alike p.text q.text also refl)
 
-pub put_count : OneOutcome fn.put_count.ended fn.put_count.Reads.Post
+pub put_count : OneOutcome contract.put_count.ended fn.put_count.Reads.Post
 put_count κs a x y v w p q = (alike p.count q.count, alike p.text q.text also refl)
 
-pub put_erf : OneOutcome fn.put_erf.ended fn.put_erf.Reads.Post
+pub put_erf : OneOutcome contract.put_erf.ended fn.put_erf.Reads.Post
 put_erf κs a x y v w p q = (alike p.count q.count, alike p.text q.text also refl)
 
-pub put_mac : OneOutcome fn.put_mac.ended fn.put_mac.Reads.Post
+pub put_mac : OneOutcome contract.put_mac.ended fn.put_mac.Reads.Post
 put_mac κs a x y v w p q = (alike p.count q.count, alike p.text q.text also refl)
 
-pub put_svr : OneOutcome fn.put_svr.ended fn.put_svr.Reads.Post
+pub put_svr : OneOutcome contract.put_svr.ended fn.put_svr.Reads.Post
 put_svr κs a x y v w p q = (alike p.count q.count, alike p.text q.text also refl)
 
-pub put_iv : OneOutcome fn.put_iv.ended fn.put_iv.Reads.Post
+pub put_iv : OneOutcome contract.put_iv.ended fn.put_iv.Reads.Post
 put_iv κs a x y v w p q = (alike p.count q.count, alike p.text q.text also refl)
 
-pub put_edk : OneOutcome fn.put_edk.ended fn.put_edk.Reads.Post
+pub put_edk : OneOutcome contract.put_edk.ended fn.put_edk.Reads.Post
 put_edk κs a x y v w p q = (alike p.count q.count, alike p.text q.text also refl)
 
-pub put_nos : OneOutcome fn.put_nos.ended fn.put_nos.Reads.Post
+pub put_nos : OneOutcome contract.put_nos.ended fn.put_nos.Reads.Post
 put_nos κs a x y v w p q = (alike p.count q.count, alike p.text q.text also refl)
 
-pub put_keys : OneOutcome fn.put_keys.ended fn.put_keys.Reads.Post
+pub put_keys : OneOutcome contract.put_keys.ended fn.put_keys.Reads.Post
 put_keys κs a x y v w p q = (alike p.count q.count, alike p.text q.text also refl)

@@ -1,5 +1,7 @@
 // Field writers: each is lent the reply buffer's unwritten rest, lays its field over the front of it as far as there is
 // room, and returns how many bytes it wrote.
+#![tactic(auto)]
+
 ghost use Rattle.std.specs.Prelude.{[], ◌∷◌, ◌++◌, ◌%◌};
 ghost use Rattle.octets.specs.Text.{blank};
 ghost use Rattle.csm.specs.Format as formats;
@@ -13,7 +15,7 @@ mod kd;
 
 // A data key as it stands in a KD: enciphered, whether it is marked P, and its names IDK1 and IDK2, each filled up with
 // blanks; a name of blanks alone is none.
-#[derive(Drop)]
+#[derive(Clone, Copy)]
 pub struct Key {
     pub sealed: u64,
     pub p: bool,
@@ -22,7 +24,7 @@ pub struct Key {
 }
 
 // The IV of a KSM: none, its value, or its enciphered value.
-#[derive(Drop)]
+#[derive(Clone, Copy)]
 pub enum Vector {
     Absent,
     Plain(u64),

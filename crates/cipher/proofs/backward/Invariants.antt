@@ -1,0 +1,19 @@
+-- The iterations still to come, from the halves so far, give the whole.
+use mathlib.Core.Path.{◌≡◌, sym, ap, ◌∙◌}
+use mathlib.Core.List.{reverse}
+use Prim.Native.Nat.{ℕ, suc, ◌≤◌, ◌<◌, ◌-◌, ◌^◌}
+use lib.ListN.{length, take, get_or}
+use Rattle.dea.specs.Dea.{iterate}
+use Rattle.dea.proofs.Laws.{step_lt}
+use Rattle.cipher.proofs.Walks.{step_back, start_back, finish_back}
+use borrow.Author.Rules.{rules}
+use native.Mathlib.Omega.{arith}
+use Rattle.cipher.proofs.backward.Given as goal
+
+abbrev pub invariant-loop-round : goal.invariant-loop-round
+invariant-loop-round l =
+    (l.round ≤ length l.ks) × (l.l < 2 ^ 32) × (l.r < 2 ^ 32)
+    × (iterate (reverse (take l.round l.ks)) l.l l.r ≡ iterate (reverse l.ks) l.left l.right)
+
+abbrev pub decreases-loop-round : goal.decreases-loop-round
+decreases-loop-round l = l.round

@@ -1,0 +1,16 @@
+-- The bits so far and those that the rest of the table names are the whole permuted block.
+use mathlib.Core.Path.{◌≡◌, refl}
+use Prim.Native.Nat.{◌≤◌, ◌<◌, ◌-◌, ◌^◌}
+use lib.ListN.{length, drop, get_or}
+use Rattle.dea.specs.Dea.{gather, permute, bit}
+use Rattle.cipher.proofs.Picks.{named_at, walk, grows, small, walked}
+use borrow.Author.Rules.{rules}
+use native.Mathlib.Omega.{arith}
+use Rattle.cipher.proofs.pick.Given as goal
+
+abbrev pub invariant-loop-i : goal.invariant-loop-i
+invariant-loop-i l =
+    (l.i ≤ length l.table) × (l.bits < 2 ^ l.i) × (gather l.n l.x l.bits (drop l.i l.table) ≡ permute l.n l.table l.x)
+
+abbrev pub decreases-loop-i : goal.decreases-loop-i
+decreases-loop-i l = length l.table - l.i

@@ -1,0 +1,7 @@
+-- `fields::class_field` meets its contract: what is read of MCL is what is read of its contents. Assumes nothing.
+use Rattle.fields.proofs.PieceLaws.{class_found}
+use borrow.Author.Rules.{rules}
+use Rattle.fields.proofs.class_field.Goals as goal
+
+pub returns : goal.returns
+returns c = let a = c.args in cc (class_found a.text.now a.at)

@@ -1,0 +1,15 @@
+-- `fields::words::numeral` meets its contract: all digits are n and the rest, and n is of i digits. Assumes nothing.
+use mathlib.Core.Path.{◌≡◌, refl, sym, ap, ◌∙◌}
+use Prim.Native.Nat.{ℕ, ◌+◌, ◌*◌, ◌-◌, ◌^◌, ◌≤◌, ◌<◌}
+use native.Mathlib.Omega.{arith}
+use lib.ListN.{length, drop}
+use Rattle.csm.specs.Fields.{digit_value, numeral}
+use Rattle.fields.proofs.DigitLaws.{few_digits, digit_small, numeral_on, numeral_done, Room, room}
+use Rattle.fields.proofs.words.numeral.Given as goal
+
+abbrev pub invariant-loop-i : goal.invariant-loop-i
+invariant-loop-i l =
+    (l.i ≤ length l.digits) × ((l.n < 16 ^ l.i) × (numeral l.base 0 l.digits ≡ numeral l.base l.n (drop l.i l.digits)))
+
+abbrev pub decreases-loop-i : goal.decreases-loop-i
+decreases-loop-i l = length l.digits - l.i
