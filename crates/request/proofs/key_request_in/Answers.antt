@@ -10,17 +10,16 @@ use Rattle.octets.proofs.Parts.{length_part, part_cut, part_byte, part_fits}
 use Rattle.partner.specs.Entry.{name_of}
 use Rattle.request.proofs.Names.{name_whole}
 use borrow.Author.Rules.{rules}
-use Rattle.request.proofs.key_request_in.Statement.{statement}
-use Rattle.request.proofs.key_request_in.Tie as tie
+use Rattle.request.proofs.key_request_in.Goals as goal
 
-returns : tie.Need-returns
+pub returns : goal.returns
 returns c =
-    let start = c.before.before.before.before.before.before in
+    let start = c in
     let s = start.args.s.now in
     let n = start.args.at in
     let h = start.requires in
-    let o = octets_lent s c.before.before.before.before.before.shared-slice-known.given in
-    let k = c.before.before.before.number.ensures
+    let o = octets_lent s c.shared_slice_known-1.given in
+    let k = c.number.ensures
     ∙ ap (λ (t : Text). number t % 2 ^ 64) (part_cut 8 n (n + 8) s (omega arith) (omega arith))
     ∙ part_fits 8 n s o (omega arith) in
     let f = part_byte (n + 8) s (omega arith) in
@@ -28,21 +27,3 @@ returns c =
     ∙ ap name_of (part_cut 16 (n + 8 + 1) (n + 8 + 1 + 16) s (omega arith) (omega arith))
     ∙ name_whole (part_or_zeros 16 (n + 8 + 1) s) (length_part 16 (n + 8 + 1) s) in
     λ i. record { key = k i; flags = f i; name = m i }
-
-pub key-request-in-spec : {M : Type 1} → statement M
-key-request-in-spec =
-    tie.close
-    (tie.spec
-    (λ c. search rules)
-    (λ c. search rules)
-    (λ c. search rules)
-    (λ c. search rules)
-    (λ c. search rules)
-    (λ c. search rules)
-    (λ c κs. search rules)
-    (λ c. search rules)
-    (λ c. search rules)
-    (λ c. search rules)
-    (λ c. search rules)
-    (λ c κs. search rules)
-    returns)
