@@ -1,5 +1,4 @@
 -- `fields::keys::key` meets its contract: 16 hex digits, and behind a dot subfields. Assumes nothing.
--- whether the first piece is a key
 use mathlib.Core.Path.{sym, ap, ◌∙◌}
 use mathlib.Core.Bool.{true}
 use native.Mathlib.Omega.{arith}

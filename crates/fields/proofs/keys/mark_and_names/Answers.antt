@@ -1,5 +1,4 @@
 -- `fields::keys::mark_and_names` meets its contract: the mark, or the mark or nothing and names. Assumes nothing.
--- whether the first piece is the mark
 use mathlib.Core.Path.{◌≡◌, refl, sym, ap, ◌∙◌}
 use mathlib.Core.Bool.{true, false}
 use native.Mathlib.Omega.{arith}

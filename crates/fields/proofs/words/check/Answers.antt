@@ -1,5 +1,4 @@
 -- `fields::words::check` meets its contract. Assumes nothing.
--- a half is small
 use mathlib.Core.Path.{◌≡◌, sym, ◌∙◌}
 use mathlib.Core.Option.{some}
 use Prim.Native.Nat.{ℕ, ◌<◌}
@@ -12,6 +11,7 @@ use Rattle.csm.proofs.FormatLaws.{value_back}
 use Rattle.fields.proofs.PieceLaws.{number_none, number_some}
 use Rattle.fields.proofs.words.check.Goals as goal
 
+-- a half is small
 small : (w : Text) (n : ℕ) → value (hex half_digits) w ≡ some n → n < 65536
 small w n e = ltb-true n 65536 (value_back (hex half_digits) w n e).0
 

@@ -1,5 +1,4 @@
 -- `fields::words::class` meets its contract: the table's texts are the names of the eight classes. Assumes nothing.
--- the class of each place
 use mathlib.Core.Path.{sym, subst}
 use Prim.Native.Nat.{ℕ, ◌≤◌}
 use native.Mathlib.Omega.{arith}

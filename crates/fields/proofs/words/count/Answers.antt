@@ -17,8 +17,6 @@ returns-then-not-is_run c =
     let w = c.args.w.now in
     rw (count_value w, sym c.is_run.ensures ∙ c.if-not-is_run.true)
 
--- they are digits
--- and there is one
 pub returns-then-w-eq48 : goal.returns-then-w-eq48
 returns-then-w-eq48 c =
     let k = c in

@@ -8,8 +8,6 @@ use Rattle.fields.proofs.LetterLaws.{sought_more, here_small, bit}
 use Rattle.fields.proofs.LetterLaws.{erf_left, erf_empty, erf_found}
 use Rattle.fields.proofs.words.letters.Goals as goal
 
--- a letter is there or not
--- the letter's bit has room
 pub loop-k-preserved : goal.loop-k-preserved
 loop-k-preserved c =
     let l = c in

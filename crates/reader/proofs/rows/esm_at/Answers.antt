@@ -1,5 +1,4 @@
 -- `reader::rows::esm_at` meets its contract: the row, then the counts exactly with P. Assumes nothing.
--- what is read, by whether all of it is there
 use mathlib.Core.Path.{sym, ap, ◌∙◌}
 use mathlib.Core.Bool.{Bool, true, false, ◌&&◌}
 use Rattle.reader.proofs.StageLaws.{esm_step}

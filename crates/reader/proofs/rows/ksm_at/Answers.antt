@@ -1,5 +1,4 @@
 -- `reader::rows::ksm_at` meets its contract: NOS or not, KDs, IV, EDK, CTP and MAC, then the end. Assumes nothing.
--- what is read, by whether all of it is there
 use mathlib.Core.Path.{sym, ap, ◌∙◌}
 use mathlib.Core.Bool.{Bool, true, false, ◌&&◌}
 use lib.ListN.{drop}

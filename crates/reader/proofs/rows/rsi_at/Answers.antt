@@ -1,5 +1,4 @@
 -- `reader::rows::rsi_at` meets its contract: SVR, then an optional EDC to the end. Assumes nothing.
--- what is read, by whether all of it is there
 use mathlib.Core.Path.{sym, ap, ◌∙◌}
 use mathlib.Core.Bool.{Bool, true, false, ◌&&◌}
 use Rattle.reader.proofs.StageLaws.{rsi_step}

@@ -1,5 +1,4 @@
 -- `reader::rows::rsm_at` meets its contract: MAC, then the end. Assumes nothing.
--- what is read, by whether all of it is there
 use mathlib.Core.Path.{sym, ap, ◌∙◌}
 use mathlib.Core.Bool.{Bool, true, false, ◌&&◌}
 use Rattle.reader.proofs.StageLaws.{rsm_step}
