@@ -1,6 +1,5 @@
 -- `writer::put_edk` meets its contract: the field, or nothing. Assumes nothing.
 use Rattle.octets.proofs.Writing.{wrote_nothing}
-use borrow.Author.Rules.{rules}
 use Rattle.writer.proofs.put_edk.Goals as goal
 
 pub returns-then-dated : goal.returns-then-dated

@@ -3,7 +3,6 @@ use mathlib.Core.List.{append-nil}
 use Rattle.octets.proofs.Writing.{wrote_rest}
 use Rattle.csm.specs.Fields.{field, KD}
 use Rattle.writer.specs.Contents.{kd_of, keys_text}
-use borrow.Author.Rules.{rules}
 use Rattle.writer.proofs.put_keys.Goals as goal
 
 pub returns-then-two : goal.returns-then-two

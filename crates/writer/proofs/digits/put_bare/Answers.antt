@@ -2,7 +2,6 @@
 use mathlib.Core.Path.{ap, ◌∙◌}
 use Rattle.octets.specs.Part.{bare}
 use Rattle.octets.proofs.Writing.{wrote_as, rest_is}
-use borrow.Author.Rules.{rules}
 use Rattle.writer.proofs.digits.put_bare.Goals as goal
 
 pub returns : goal.returns

@@ -2,7 +2,6 @@
 use Prim.Native.Nat.{◌%◌}
 use borrow.Author.Tests.{eq-eqb, ne_eqb}
 use Rattle.octets.proofs.Writing.{wrote_nothing}
-use borrow.Author.Rules.{rules}
 use Rattle.writer.proofs.digits.put_letter.Goals as goal
 
 pub returns-then-left-eq1 : goal.returns-then-left-eq1

@@ -2,7 +2,6 @@
 use native.Mathlib.Omega.{arith}
 use Rattle.writer.proofs.Services.{table, service_at, no_service}
 use Rattle.octets.proofs.Writing.{wrote_as, wrote_nothing}
-use borrow.Author.Rules.{rules}
 use Rattle.writer.proofs.digits.put_service.Goals as goal
 
 pub returns-then-service-ge12 : goal.returns-then-service-ge12

@@ -1,13 +1,12 @@
 -- `writer::kd::put_kd` meets its contract: tag and digits, subfields, blank, one after the other. Assumes nothing.
--- the tag, the digits, the subfields and the blank, grouped as the format has them
 use mathlib.Core.Path.{◌≡◌}
 use mathlib.Core.List.{[], ◌∷◌, ◌++◌, append_assoc}
 use Rattle.octets.specs.Text.{Text, ascii, blank}
 use Rattle.octets.proofs.Writing.{wrote_rest, wrote_as}
 use Rattle.csm.specs.Fields.{hex_text, subfields, nonempty}
-use borrow.Author.Rules.{rules}
 use Rattle.writer.proofs.kd.put_kd.Goals as goal
 
+-- the tag, the digits, the subfields and the blank, grouped as the format has them
 grouped : (t h s b : Text) → ((t ++ h) ++ s) ++ b ≡ t ++ ((h ++ s) ++ b)
 grouped t h s b = simp append_assoc
 

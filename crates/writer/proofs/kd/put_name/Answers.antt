@@ -1,6 +1,5 @@
 -- `writer::kd::put_name` meets its contract: a dot, then the name. Assumes nothing.
 use Rattle.octets.proofs.Writing.{wrote_rest}
-use borrow.Author.Rules.{rules}
 use Rattle.writer.proofs.kd.put_name.Goals as goal
 
 pub returns : goal.returns

@@ -2,7 +2,6 @@
 use native.Mathlib.Omega.{arith}
 use Rattle.writer.proofs.Subfields.{three, two, marked, bare_key}
 use Rattle.octets.proofs.Writing.{wrote_rest, wrote_as, wrote_nothing}
-use borrow.Author.Rules.{rules}
 use Rattle.writer.proofs.kd.put_subfields.Goals as goal
 
 pub returns-then-idk2-gt0 : goal.returns-then-idk2-gt0
