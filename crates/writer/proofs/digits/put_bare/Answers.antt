@@ -6,6 +6,5 @@ use Rattle.writer.proofs.digits.put_bare.Goals as goal
 
 pub returns : goal.returns
 returns c =
-    let v = c in
-    let a = v.args in
-    wrote_as (v.bare.ensures ∙ ap bare (rest_is a.at a.table.now)) c.put_text.ensures
+    let a = c.args in
+    wrote_as (c.bare.ensures ∙ ap bare (rest_is a.at a.table.now)) c.put_text.ensures

@@ -6,8 +6,7 @@ use Rattle.writer.proofs.digits.put_letter.Goals as goal
 
 pub returns-then-left-eq1 : goal.returns-then-left-eq1
 returns-then-left-eq1 c =
-    let w = c in
-    rw (eq-eqb (w.args.left % 2) 1 w.if-left-eq1.true) w.fill.ensures
+    rw (eq-eqb (c.args.left % 2) 1 c.if-left-eq1.true) c.fill.ensures
 
 pub returns : goal.returns
 returns c =

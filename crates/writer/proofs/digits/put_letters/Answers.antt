@@ -10,5 +10,4 @@ loop-i-init c =
 
 pub loop-i-preserved : goal.loop-i-preserved
 loop-i-preserved c =
-    let w = c in
-    spelling_more w.loop-i.invariant (omega arith) w.put_letter-n.ensures
+    spelling_more c.loop-i.invariant (omega arith) c.put_letter-n.ensures

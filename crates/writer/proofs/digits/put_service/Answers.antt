@@ -12,5 +12,4 @@ returns-then-service-ge12 c =
 pub returns : goal.returns
 unfolding table
 returns c =
-    let w = c in
-    wrote_as (service_at w.args.service (omega arith)) w.put_bare.ensures
+    wrote_as (service_at c.args.service (omega arith)) c.put_bare.ensures

@@ -4,5 +4,4 @@ use Rattle.writer.proofs.kd.put_name.Goals as goal
 
 pub returns : goal.returns
 returns c =
-    let w = c in
-    wrote_rest w.put_text-a.ensures w.put_text.ensures
+    wrote_rest c.put_text-a.ensures c.put_text.ensures
