@@ -2,7 +2,7 @@
 use mathlib.Core.Path.{◌≡◌, sym, ap}
 use Prim.Native.Nat.{ℕ}
 use lib.ListN.{length}
-use borrow.Author.Rules.{rules, length_unmapped}
+use borrow.Author.Rules.{rules}
 use Rattle.octets.specs.Text.{Text}
 use Rattle.partner.specs.Record.{entry_size, entry_bytes}
 use Rattle.partner.proofs.Storing.{names_size, put_short, put_room}
@@ -17,7 +17,15 @@ returns-then-rest-lt-SIZE c =
 -- the entry's record fills its layout, for each of its names has 16 bytes
 pub returns : goal.returns
 returns c =
-    let start = c in
     let w = c.put_whole.ensures in
-    let e = put_room start.args.e ((let sized-fact : length (entry_bytes start.args.e) ≡ entry_size = let e = start.args.e in let fields = start.well_formed.1.0.1.1 in let outgoing = fields.1.1.0.1.1.1.1.0.1.1 in let incoming = fields.1.1.1.0.1.1.1.0.1.1 in names_size e (search rules) (length_unmapped ℕ e.top.name.bytes 16 fields.1.0.1.1.0.1.1.0.1.0.1) (length_unmapped ℕ e.sending.outgoing.first.name.bytes 16 outgoing.1.0.1.1.1.0.1.1.0.1.0.1) (length_unmapped ℕ e.sending.outgoing.second.name.bytes 16 outgoing.1.1.0.1.1.1.0.1.1.0.1.0.1) (length_unmapped ℕ e.receiving.incoming.first.name.bytes 16 incoming.1.0.1.1.1.0.1.1.0.1.0.1) (length_unmapped ℕ e.receiving.incoming.second.name.bytes 16 incoming.1.1.0.1.1.1.0.1.1.0.1.0.1) in sized-fact)) c.if-rest-lt-SIZE.false w in
+    let sized : length (entry_bytes c.args.e) ≡ entry_size =
+    let fields = c.well_formed.1.0.1.1 in
+    let outgoing = fields.1.1.0.1.1.1.1.0.1.1 in
+    let incoming = fields.1.1.1.0.1.1.1.0.1.1 in
+    names_size c.args.e (search rules) fields.1.0.1.1.0.1.1.0.1.0.1
+    outgoing.1.0.1.1.1.0.1.1.0.1.0.1
+    outgoing.1.1.0.1.1.1.0.1.1.0.1.0.1
+    incoming.1.0.1.1.1.0.1.1.0.1.0.1
+    incoming.1.1.0.1.1.1.0.1.1.0.1.0.1 in
+    let e = put_room c.args.e sized c.if-rest-lt-SIZE.false w in
     record { rest_after = sym (ap (λ (p : Text × ℕ). p.0) e); value = sym (ap (λ (p : Text × ℕ). p.1) e) }
