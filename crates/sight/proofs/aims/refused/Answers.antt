@@ -2,12 +2,11 @@
 use Rattle.sight.specs.declared.aims.Aim.{Aim}
 use mathlib.Core.Path.{ap}
 use borrow.Author.Rules.{rules}
-use Rattle.sight.proofs.aims.refused.Statement.{statement}
-use Rattle.sight.proofs.aims.refused.Tie as tie
+use Rattle.sight.proofs.aims.refused.Goals as goal
 
-returns : tie.Need-returns
+pub returns : goal.returns
 returns c =
-    let a = c.before.before.before.args in
+    let a = c.args in
     ap (λ (x : Aim). record {
       own = x.own;
       ours = x.ours;
@@ -16,7 +15,4 @@ returns c =
       vacant = x.vacant;
       answer = a.answer;
       room = x.room;
-    }) c.at_partner.ensures
-
-pub refused-spec : {M : Type 1} → statement M
-refused-spec = tie.close (tie.spec (λ c. search rules) (λ c κs. search rules) returns)
+    }) c.at_partner-aim.ensures

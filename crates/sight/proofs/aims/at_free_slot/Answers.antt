@@ -3,10 +3,9 @@ use mathlib.Core.Path.{ap}
 use mathlib.Core.Bool.{true}
 use Rattle.sight.specs.declared.aims.Aim.{Aim}
 use borrow.Author.Rules.{rules}
-use Rattle.sight.proofs.aims.at_free_slot.Statement.{statement}
-use Rattle.sight.proofs.aims.at_free_slot.Tie as tie
+use Rattle.sight.proofs.aims.at_free_slot.Goals as goal
 
-returns : tie.Need-returns
+pub returns : goal.returns
 returns c =
     ap {B = Aim} (λ (x : Aim). record {
       own = x.own;
@@ -16,7 +15,4 @@ returns c =
       vacant = true;
       answer = x.answer;
       room = x.room;
-    }) c.at_partner.ensures
-
-pub at-free-slot-spec : {M : Type 1} → statement M
-at-free-slot-spec = tie.close (tie.spec (λ c κs. search rules) returns)
+    }) c.at_partner-aim.ensures
