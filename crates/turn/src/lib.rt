@@ -1,4 +1,6 @@
 // The way of a call: the order of its answers, and the turn of one entry.
+#![tactic(auto)]
+
 ghost use Rattle.std.specs.Prelude.{◌≡◌, [], length};
 ghost use Rattle.octets.specs.First.{first, go};
 ghost use Rattle.calls.specs.Outcome as calls;

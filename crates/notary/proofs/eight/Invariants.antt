@@ -1,14 +1,10 @@
 -- After i characters x is their number, as far as 64 bits hold it; eight fit.
-use mathlib.Core.Path.{◌≡◌, refl, sym, ap, ◌∙◌}
+use mathlib.Core.Path.{◌≡◌}
 use mathlib.Core.Bool.{true}
-use Prim.Native.Nat.{ℕ, ◌+◌, ◌-◌, ◌%◌, ◌^◌, ◌≤◌, ◌<◌}
-use native.Mathlib.Nat.{mod-lt}
-use native.Mathlib.Omega.{arith}
-use lib.ListN.{length, get_or}
+use Prim.Native.Nat.{◌-◌, ◌%◌, ◌^◌, ◌≤◌}
 use Rattle.octets.specs.Part.{all_octets}
 use Rattle.octets.specs.Number.{number}
 use Rattle.keying.specs.Working.{characters}
-use Rattle.keying.proofs.Characters.{number_next, none_to_repeat, octets_next, eight_fit}
 use Rattle.notary.proofs.eight.Given as goal
 
 abbrev pub invariant-loop-i : goal.invariant-loop-i

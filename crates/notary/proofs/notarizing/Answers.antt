@@ -1,5 +1,4 @@
 -- By the form of the key.
-use borrow.Author.Rules.{rules}
 use Rattle.notary.proofs.Notaries.{key_notarizing, pair_notarizing}
 use Rattle.notary.proofs.notarizing.Goals as goal
 

@@ -1,6 +1,5 @@
 -- As the definition has it.
 use mathlib.Core.Path.{◌∙◌}
-use borrow.Author.Rules.{rules}
 use Rattle.notary.proofs.Notaries.{half_seal}
 use Rattle.notary.proofs.notary.Goals as goal
 

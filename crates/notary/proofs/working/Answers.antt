@@ -1,5 +1,4 @@
 -- Notarized or not, then by the form of the key.
-use borrow.Author.Rules.{rules}
 use Rattle.keying.specs.Working.{offset, working}
 use Rattle.notary.proofs.working.Goals as goal
 

@@ -1,5 +1,4 @@
 -- Zero throughout.
-use borrow.Author.Rules.{rules}
 use Rattle.partner.specs.Entry.{empty}
 use Rattle.partner.proofs.empty.Goals as goal
 

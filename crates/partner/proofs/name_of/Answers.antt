@@ -1,6 +1,5 @@
 -- The text is copied over 16 blanks.
 use mathlib.Core.Path.{◌∙◌}
-use borrow.Author.Rules.{rules}
 use Rattle.partner.specs.Entry.{filled}
 use Rattle.octets.proofs.Parts.{over_copies}
 use Rattle.partner.proofs.Naming.{name_as}

@@ -1,5 +1,4 @@
 -- Both places are unused.
-use borrow.Author.Rules.{rules}
 use Rattle.partner.proofs.no_keys.Goals as goal
 
 pub returns : goal.returns

@@ -1,5 +1,4 @@
 -- As the definition has it.
-use borrow.Author.Rules.{rules}
 use Rattle.keying.specs.Iv.{conceal}
 use Rattle.sealing.proofs.conceal.Goals as goal
 

@@ -1,5 +1,4 @@
 -- By the number of keys.
-use borrow.Author.Rules.{rules}
 use Rattle.keying.specs.Iv.{last_key}
 use Rattle.sealing.proofs.last_key.Goals as goal
 

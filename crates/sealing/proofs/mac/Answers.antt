@@ -1,5 +1,4 @@
 -- As the definition has it.
-use borrow.Author.Rules.{rules}
 use Rattle.keying.specs.Mac.{mac}
 use Rattle.sealing.proofs.mac.Goals as goal
 

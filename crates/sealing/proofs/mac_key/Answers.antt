@@ -1,5 +1,4 @@
 -- By the number of keys.
-use borrow.Author.Rules.{rules}
 use Rattle.keying.specs.Mac.{mac_key}
 use Rattle.sealing.proofs.mac_key.Goals as goal
 

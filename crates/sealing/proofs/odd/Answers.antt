@@ -1,10 +1,7 @@
 -- The bytes that are left decide what all eight decide.
-use mathlib.Core.Path.{◌≡◌, refl, sym, ◌∙◌}
-use Prim.Native.Nat.{◌-◌, ◌≤◌}
+use mathlib.Core.Path.{refl, sym, ◌∙◌}
 use native.Mathlib.Omega.{arith}
-use Rattle.octets.specs.Text.{all}
-use Rattle.octets.specs.Number.{bytes}
-use Rattle.keying.specs.Parity.{odd, odd_byte}
+use Rattle.keying.specs.Parity.{odd}
 use Rattle.sealing.proofs.Ones.{none_left, even_here, odd_here}
 use Rattle.sealing.proofs.odd.Goals as goal
 

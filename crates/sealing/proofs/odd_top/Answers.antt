@@ -1,6 +1,5 @@
 -- Half by half.
 use mathlib.Core.Path.{sym, ap, ◌∙◌}
-use borrow.Author.Rules.{rules}
 use Rattle.keying.specs.Keys.{odd_top}
 use Rattle.keying.specs.Parity.{odd}
 use Rattle.octets.proofs.Comparing.{and_then, and_else}

@@ -1,5 +1,4 @@
 -- As the definition has it.
-use borrow.Author.Rules.{rules}
 use Rattle.keying.specs.Iv.{reveal}
 use Rattle.sealing.proofs.reveal.Goals as goal
 

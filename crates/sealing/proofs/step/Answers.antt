@@ -1,5 +1,4 @@
 -- By the way.
-use borrow.Author.Rules.{rules}
 use Rattle.sealing.proofs.step.Goals as goal
 
 pub returns-then-back : goal.returns-then-back

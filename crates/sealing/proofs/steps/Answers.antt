@@ -3,7 +3,6 @@
 -- the first block under a single key, and under a pair
 use mathlib.Core.Path.{◌≡◌, ap, ◌∙◌}
 use mathlib.Core.Bool.{cond}
-use borrow.Author.Rules.{rules}
 use borrow.Author.Tests.{not-true, not-false}
 use lib.ListN.{get_or}
 use Rattle.dea.specs.Dea.{schedule}

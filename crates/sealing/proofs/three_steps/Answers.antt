@@ -1,7 +1,6 @@
 -- One step after the other.
 use mathlib.Core.Path.{ap, ◌∙◌}
 use mathlib.Core.Bool.{not}
-use borrow.Author.Rules.{rules}
 use Rattle.keying.specs.Keys.{way}
 use Rattle.sealing.proofs.three_steps.Goals as goal
 

@@ -1,0 +1,7 @@
+-- `turn::plain` meets its contract: nothing is told. Assumes nothing.
+use borrow.Author.Rules.{rules}
+use Rattle.turn.proofs.Acting.{plain_is}
+use Rattle.turn.proofs.plain.Goals as goal
+
+pub returns : goal.returns
+returns c = plain_is c.args.e c.told_nothing.ensures
