@@ -17,14 +17,14 @@ use Rattle.image.proofs.legal.Goals as goal
 pub returns-then-not-front_legal : goal.returns-then-not-front_legal
 returns-then-not-front_legal c =
     let im : Text = c.args.image.now in
-    let o = octets_lent im c.shared_slice_known-1.given in
+    let o = octets_lent im c.type_inv.image in
     let f : front_legal im ≡ false = sym c.front_legal.ensures ∙ c.if-not-front_legal.true in
     sym (legal_pass im o ∙ ap (λ (b : Bool). b && records_legal 64 front_size im) f)
 
 pub loop-left-init : goal.loop-left-init
 loop-left-init c =
     let im : Text = c.args.image.now in
-    let o = octets_lent im c.shared_slice_known-1.given in
+    let o = octets_lent im c.type_inv.image in
     let f : front_legal im ≡ true = sym c.front_legal.ensures ∙ c.if-not-front_legal.false in
     (search rules, (search rules, legal_pass im o ∙ ap (λ (b : Bool). b && records_legal 64 front_size im) f))
 

@@ -22,4 +22,7 @@ returns c =
     let done = c.load_at.ensures in
     let so : added at.result a.e im ≡ added_slot a.slot a.e im =
     ap (λ (p : ℕ). added p a.e im) at.ensures ∙ sym (added_slot_within a.slot im inside a.e) in
-    record { out_after = done.out_after ∙ ap (λ (o : Option Text). delivered o a.out.now) so; value = done.value ∙ ap (λ (o : Option Text). size_delivered o a.out.now) so }
+    record {
+      out_after = done.out_after ∙ ap (λ (o : Option Text). delivered o a.out.now) so;
+      value = done.value ∙ ap (λ (o : Option Text). size_delivered o a.out.now) so;
+    }

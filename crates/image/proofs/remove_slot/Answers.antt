@@ -22,4 +22,7 @@ returns c =
     let done = c.remove_at.ensures in
     let so : removed at.result im ≡ removed_slot a.slot im =
     ap (λ (p : ℕ). removed p im) at.ensures ∙ sym (removed_slot_within a.slot im inside) in
-    record { out_after = done.out_after ∙ ap (λ (o : Option Text). delivered o a.out.now) so; value = done.value ∙ ap (λ (o : Option Text). size_delivered o a.out.now) so }
+    record {
+      out_after = done.out_after ∙ ap (λ (o : Option Text). delivered o a.out.now) so;
+      value = done.value ∙ ap (λ (o : Option Text). size_delivered o a.out.now) so;
+    }

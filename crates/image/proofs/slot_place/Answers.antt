@@ -13,20 +13,8 @@ use Rattle.image.proofs.slot_place.Goals as goal
 pub loop-left-init : goal.loop-left-init
 loop-left-init c = (search rules, (search rules, refl))
 
-pub byte_at-requires : goal.byte_at-requires
-byte_at-requires c = search rules
-
-pub record_length-at-requires : goal.record_length-at-requires
-record_length-at-requires c = search rules
-
 pub overflow_add-at : goal.overflow_add-at
 overflow_add-at c = omega (arith, c.record_length-at.ensures, length_small c.byte_at.result)
-
-pub overflow_sub-left : goal.overflow_sub-left
-overflow_sub-left c = search rules
-
-pub loop-left-smaller : goal.loop-left-smaller
-loop-left-smaller c = search rules
 
 pub loop-left-preserved : goal.loop-left-preserved
 loop-left-preserved c =

@@ -26,7 +26,7 @@ pub returns : goal.returns
 returns c =
     let a = c.args in
     let s : Text = a.identity.now in
-    let o = octets_lent s c.shared_slice_known-2-1.given in
+    let o = octets_lent s c.type_inv.identity in
     let l : length s ≡ 16 = omega arith in
     let first = c.number-first.ensures ∙ eight s 0 8 o l refl in
     let second = c.number-second.ensures ∙ eight s 8 (length s - 8) o l (omega arith) ∙ ap number (rest_is 8 s) in
