@@ -16,7 +16,7 @@ use Rattle.partner.specs.Entry.{empty}
 use Rattle.partner.specs.Legal as rule
 use Rattle.partner.specs.Record.{entry_bytes, entry_in, entry_size}
 use Rattle.partner.proofs.Storing.{read_written}
-use Rattle.partner.specs.Table.{legal, identities, differs, apart}
+use Rattle.partner.specs.Table.{identities, differs, apart}
 use Rattle.image.specs.Image.{record_length, slots_bytes, slots_in, partner_size}
 use Rattle.image.specs.Places.{entry_at}
 use Rattle.image.specs.Pass.{identity_at, apart_from, record_legal}

@@ -1,5 +1,7 @@
 // The stored image: whether it is legal, the number of a partner's slot or of an empty one, the entry of a slot, and an
 // image with a slot changed, filled or emptied.
+#![tactic(auto)]
+
 ghost use Rattle.std.specs.Prelude.{◌≡◌, ◌+◌, ◌*◌, ◌≤◌, length, take, drop, get_or};
 ghost use Rattle.std.proofs.Math.Option.{some};
 ghost use Rattle.octets.specs.Part.{found};
