@@ -2,13 +2,14 @@
 use mathlib.Core.Path.{refl}
 use Rattle.octets.specs.One.{OneOutcome}
 use Rattle.octets.proofs.Alike.{alike, ◌also◌}
+use Rattle.building.specs.contracts as contract
 use Rattle.building.proofs as fn
 
-pub build_ksm : OneOutcome fn.build_ksm.ended fn.build_ksm.Reads.Post
+pub build_ksm : OneOutcome contract.build_ksm.ended fn.build_ksm.Reads.Post
 build_ksm κs a x y v w p q = (alike p.0 q.0, refl also refl also refl also alike p.1 q.1 also refl)
 
-pub build_rsi : OneOutcome fn.build_rsi.ended fn.build_rsi.Reads.Post
+pub build_rsi : OneOutcome contract.build_rsi.ended fn.build_rsi.Reads.Post
 build_rsi κs a x y v w p q = (alike p.0 q.0, refl also refl also refl also alike p.1 q.1 also refl)
 
-pub give_up : OneOutcome fn.give_up.ended fn.give_up.Reads.Post
+pub give_up : OneOutcome contract.give_up.ended fn.give_up.Reads.Post
 give_up κs a x y v w p q = (alike p q, refl)

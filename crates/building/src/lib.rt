@@ -1,4 +1,6 @@
 // Build a KSM, build an RSI, give up, once the partner's entry is found: on one entry by value.
+#![tactic(auto)]
+
 ghost use Rattle.std.specs.Prelude.{◌≡◌, length};
 ghost use Rattle.octets.specs.First.{first};
 ghost use Rattle.outcome.specs.Report as report;

@@ -1,5 +1,7 @@
 // What a host asks for when it has a key message built, as it hands it over: the request's 74 bytes, field by field; the room
 // for a reply, and the letters of an error.
+#![tactic(auto)]
+
 pub mod letters;
 
 // Less reply room is 6.

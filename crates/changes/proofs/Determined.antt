@@ -2,28 +2,29 @@
 use mathlib.Core.Path.{refl}
 use Rattle.octets.specs.One.{OneOutcome}
 use Rattle.octets.proofs.Alike.{alike}
+use Rattle.changes.specs.contracts as contract
 use Rattle.changes.proofs as fn
 
-pub with_sending : OneOutcome fn.with_sending.ended fn.with_sending.Reads.Post
+pub with_sending : OneOutcome contract.with_sending.ended fn.with_sending.Reads.Post
 with_sending κs a x y v w p q = (alike p q, refl)
 
-pub with_receiving : OneOutcome fn.with_receiving.ended fn.with_receiving.Reads.Post
+pub with_receiving : OneOutcome contract.with_receiving.ended fn.with_receiving.Reads.Post
 with_receiving κs a x y v w p q = (alike p q, refl)
 
-pub loaded : OneOutcome fn.loaded.ended fn.loaded.Reads.Post
+pub loaded : OneOutcome contract.loaded.ended fn.loaded.Reads.Post
 loaded κs a x y v w p q = (alike p q, refl)
 
-pub accepted : OneOutcome fn.accepted.ended fn.accepted.Reads.Post
+pub accepted : OneOutcome contract.accepted.ended fn.accepted.Reads.Post
 accepted κs a x y v w p q = (alike p q, refl)
 
-pub issued : OneOutcome fn.issued.ended fn.issued.Reads.Post
+pub issued : OneOutcome contract.issued.ended fn.issued.Reads.Post
 issued κs a x y v w p q = (alike p q, refl)
 
-pub settled : OneOutcome fn.settled.ended fn.settled.Reads.Post
+pub settled : OneOutcome contract.settled.ended fn.settled.Reads.Post
 settled κs a x y v w p q = (alike p q, refl)
 
-pub given_up : OneOutcome fn.given_up.ended fn.given_up.Reads.Post
+pub given_up : OneOutcome contract.given_up.ended fn.given_up.Reads.Post
 given_up κs a x y v w p q = (alike p q, refl)
 
-pub failed : OneOutcome fn.failed.ended fn.failed.Reads.Post
+pub failed : OneOutcome contract.failed.ended fn.failed.Reads.Post
 failed κs a x y v w p q = (alike p q, refl)

@@ -1,4 +1,6 @@
 // The changes of an entry that the steps make.
+#![tactic(auto)]
+
 ghost use Rattle.std.specs.Prelude.{◌≡◌, max};
 ghost use Rattle.partner.specs.Entry as entry;
 ghost use Rattle.partner.specs.Changes as change;

@@ -157,6 +157,18 @@ mark_more at w n e h =
     ap (subfields_seen at) (split_first w n e h ∙ ap (λ (l : List Text). m ∷ l) f.2) ∙ mark_before at m f.0 f.1
     ∙ ap (λ (l : List Text). marked (is_mark m) (same m (ascii "P")) (subfields_seen at ([] ∷ l))) (sym f.2)
 
+-- the code's steps: the piece before the dot, the tests of it, and what stands behind the dot
+pub mark_read : (at : ℕ) (w : Text) (n : ℕ) → n ≡ 0 + before dot w → (n ≡ length w → ⊥) → {m : Text}
+    → m ≡ take n w → {b p : Bool} → b ≡ is_mark m → p ≡ same m (ascii "P") → {t : Text} → t ≡ drop (n + 1) w
+    → {s : Subfields} → s ≡ subfields_seen (at + n + 1) ([] ∷ split t)
+    → subfields_seen (at + before dot w + 1) (split w) ≡ marked b p s
+mark_read at w n e h {m} f {b} {p} g k {t} u {s} r =
+    let q : before dot w ≡ n = sym (e ∙ zero-add (before dot w)) in
+    let i : marked b p s
+    ≡ marked (is_mark (take n w)) (same (take n w) (ascii "P"))
+    (subfields_seen (at + n + 1) ([] ∷ split (drop (n + 1) w))) = rw (g, k, r, f, u) in
+    ap (λ (j : ℕ). subfields_seen (at + j + 1) (split w)) q ∙ mark_more (at + n + 1) w n e h ∙ sym i
+
 -- ---- the key, then subfields
 
 abbrev pub keyed : Bool → ℕ → Span → Subfields → Keyed
@@ -273,6 +285,18 @@ key_more at w n e h q =
     key_split at w (take n w) (split v) (split_first w n e h) true q
     ∙ ap (λ (a : ℕ). keyed true (numeral 16 0 (take n w)) (record { at = at; length = length w })
     (subfields_seen a (split v))) m
+
+-- the code's steps: the piece before the dot, its number, and what stands behind the dot
+pub key_behind : (at : ℕ) (w : Text) (n : ℕ) → n ≡ 0 + before dot w → (n ≡ length w → ⊥) → {d : Text}
+    → d ≡ take n w → is_run 70 16 16 d ≡ true → {k : ℕ} → k ≡ numeral 16 0 d → {t : Text} → t ≡ drop (n + 1) w
+    → {s : Subfields} → s ≡ subfields_seen (at + n + 1 + before dot t + 1) (split t)
+    → key_seen at (value kd w) ≡ keyed true k (record { at = at; length = length w }) s
+key_behind at w n e h {d} f x {k} g {t} u {s} r =
+    let c : Span = record { at = at; length = length w } in
+    let i : keyed true k c s
+    ≡ keyed true (numeral 16 0 (take n w)) c
+    (subfields_seen (at + n + 1 + before dot (drop (n + 1) w) + 1) (split (drop (n + 1) w))) = rw (g, r, f, u) in
+    key_more at w n e h (ap (is_run 70 16 16) (sym f) ∙ x) ∙ sym i
 
 -- without a key there is nothing
 pub key_none : (at : ℕ) (w : Text) (n : ℕ) → n ≡ 0 + before dot w → is_run 70 16 16 (take n w) ≡ false

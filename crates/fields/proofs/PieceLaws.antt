@@ -24,6 +24,7 @@ use Rattle.fields.specs.declared.Number.TheVariants as number
 use Rattle.fields.specs.declared.keys.Keyed.{Keyed}
 use Rattle.fields.specs.declared.NumberField.{NumberField}
 use Rattle.fields.specs.declared.KeyField.{KeyField}
+use Rattle.fields.specs.declared.Class.{Class}
 
 -- ---- the piece behind a tag
 
@@ -210,6 +211,11 @@ pub class_found : (s : Text) (at : ℕ)
     → class_seen (taken ((field MCL).read (drop at s)))
     ≡ class_seen (value mcl (part s (span_of itself at (tag MCL) (taken (piece (tag MCL) (drop at s))))))
 class_found = field_seen mcl (tag MCL) class_seen (λ o v. class_seen v) refl (λ w. refl)
+
+pub class_read : (s : Text) (at : ℕ) {p : Place} {w : Text} {c : Class}
+    → p ≡ place_of itself at (tag MCL) (taken (piece (tag MCL) (drop at s))) → w ≡ part s p.span
+    → c ≡ class_seen (value mcl w) → c ≡ class_seen (taken ((field MCL).read (drop at s)))
+class_read s at e f g = rw (g, f, e) (sym (class_found s at))
 
 -- a KD
 key_found : (s : Text) (at : ℕ)

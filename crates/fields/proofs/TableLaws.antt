@@ -18,7 +18,6 @@ use Rattle.csm.proofs.FormatLaws.{value_back}
 use Rattle.csm.proofs.WordTests.{index_back}
 use Rattle.fields.specs.Seen.{class_seen}
 use Rattle.fields.specs.Steps.{texts}
-use Rattle.fields.specs.declared.Class.{Class}
 use Rattle.fields.specs.declared.Class.TheVariants as class
 
 -- ---- the first text of a table, and the others

@@ -2,19 +2,20 @@
 use mathlib.Core.Path.{refl}
 use Rattle.octets.specs.One.{OneOutcome}
 use Rattle.octets.proofs.Alike.{alike, ◌also◌}
+use Rattle.messages.specs.contracts as contract
 use Rattle.messages.proofs as fn
 
-pub length_of : OneOutcome fn.length_of.ended fn.length_of.Reads.Post
+pub length_of : OneOutcome contract.length_of.ended fn.length_of.Reads.Post
 length_of κs a x y v w p q = (alike p q, refl)
 
-pub write_rsi : OneOutcome fn.write_rsi.ended fn.write_rsi.Reads.Post
+pub write_rsi : OneOutcome contract.write_rsi.ended fn.write_rsi.Reads.Post
 write_rsi κs a x y v w p q = (alike p.0 q.0, alike p.1 q.1 also refl)
 
-pub write_rsm : OneOutcome fn.write_rsm.ended fn.write_rsm.Reads.Post
+pub write_rsm : OneOutcome contract.write_rsm.ended fn.write_rsm.Reads.Post
 write_rsm κs a x y v w p q = (alike p.0 q.0, alike p.1 q.1 also refl)
 
-pub write_esm : OneOutcome fn.write_esm.ended fn.write_esm.Reads.Post
+pub write_esm : OneOutcome contract.write_esm.ended fn.write_esm.Reads.Post
 write_esm κs a x y v w p q = (alike p.0 q.0, alike p.1 q.1 also refl)
 
-pub write_ksm : OneOutcome fn.write_ksm.ended fn.write_ksm.Reads.Post
+pub write_ksm : OneOutcome contract.write_ksm.ended fn.write_ksm.Reads.Post
 write_ksm κs a x y v w p q = (alike p.0 q.0, alike p.1 q.1 also refl)

@@ -1,4 +1,6 @@
 // Messages into a lent reply buffer: RSI, KSM, RSM and ESM from their parts.
+#![tactic(auto)]
+
 ghost use Rattle.std.specs.Prelude.{◌≡◌};
 ghost use Rattle.messages.specs.Readings as readings;
 ghost use Rattle.messages.specs.Answers as answers;

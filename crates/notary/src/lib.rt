@@ -1,4 +1,6 @@
 // Working keys: the top key offset by a message's count, or the notarizing key of its originator, its receiver and its count.
+#![tactic(auto)]
+
 ghost use Rattle.std.specs.Prelude.{◌≡◌, ◌≤◌};
 ghost use Rattle.octets.specs.Number.{number};
 ghost use Rattle.keying.specs.Working as working;

@@ -1,4 +1,6 @@
 // What a call gives, in code: its answer and what goes with it, and one partner's entry after it.
+#![tactic(auto)]
+
 ghost use Rattle.std.specs.Prelude.{◌≡◌, []};
 ghost use Rattle.calls.specs.Outcome as outcomes;
 ghost use Rattle.outcome.specs.Report as report;

@@ -7,6 +7,7 @@ use Rattle.octets.proofs.Alike.{alike}
 use Rattle.keying.specs.declared.DataKeys.{DataKeys}
 use Rattle.keying.specs.declared.DataKeys.TheVariants.{None, One, Two}
 use Rattle.keying.specs.Keys.{listed}
+use Rattle.partner.specs.contracts as contract
 use Rattle.partner.proofs as fn
 
 -- `data_keys`: two results that list the same keys are equal
@@ -24,23 +25,23 @@ listed_same (Two k l) (Two m n) e =
     let h : l ≡ n = cc in
     cc
 
-pub name_of : OneOutcome fn.name_of.ended fn.name_of.Reads.Post
+pub name_of : OneOutcome contract.name_of.ended fn.name_of.Reads.Post
 name_of κs a x y v w p q = (alike p q, refl)
 
-pub top_of : OneOutcome fn.top_of.ended fn.top_of.Reads.Post
+pub top_of : OneOutcome contract.top_of.ended fn.top_of.Reads.Post
 top_of κs a x y v w p q = (alike p q, refl)
 
-pub data_keys : OneOutcome fn.data_keys.ended fn.data_keys.Reads.Post
+pub data_keys : OneOutcome contract.data_keys.ended fn.data_keys.Reads.Post
 data_keys κs a x y v w p q = (listed_same x y (alike p q), refl)
 
-pub no_keys : OneOutcome fn.no_keys.ended fn.no_keys.Reads.Post
+pub no_keys : OneOutcome contract.no_keys.ended fn.no_keys.Reads.Post
 no_keys κs a x y v w p q = (alike p q, refl)
 
-pub one_key : OneOutcome fn.one_key.ended fn.one_key.Reads.Post
+pub one_key : OneOutcome contract.one_key.ended fn.one_key.Reads.Post
 one_key κs a x y v w p q = (alike p q, refl)
 
-pub two_keys : OneOutcome fn.two_keys.ended fn.two_keys.Reads.Post
+pub two_keys : OneOutcome contract.two_keys.ended fn.two_keys.Reads.Post
 two_keys κs a x y v w p q = (alike p q, refl)
 
-pub empty : OneOutcome fn.empty.ended fn.empty.Reads.Post
+pub empty : OneOutcome contract.empty.ended fn.empty.Reads.Post
 empty κs a x y v w p q = (alike p q, refl)

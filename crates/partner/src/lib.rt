@@ -1,5 +1,7 @@
 // One partner's entry in units: its top key, what it sends, what it receives. Whether it is legal is judged by `rules`, and
 // the steps change it by `changes`.
+#![tactic(auto)]
+
 ghost use Rattle.std.specs.Prelude.{◌≡◌};
 ghost use Rattle.keying.specs.Keys.{listed};
 ghost use Rattle.partner.specs.Entry as entry;

@@ -14,7 +14,7 @@ use Rattle.csm.specs.Fields as csm
 use Rattle.csm.specs.Message.{Row, closed, Body, rsi, ksm, rsm, esm, option, rsi_row, ksm_row}
 use Rattle.csm.specs.Message.{rsi_form, ksm_form, rsm_form, esm_form, rsi_record, ksm_record, text_char, ends_blank}
 use Rattle.csm.specs.Message.{starts_any, rsi_options, ksm_options, is_option, is_rest, rest, under, or_else}
-use Rattle.csm.specs.Message.{read_known, Values, Rsi, Ksm}
+use Rattle.csm.specs.Message.{read_known, Values}
 use Rattle.csm.proofs.TextLaws.{until_back}
 use Rattle.csm.proofs.MessageLaws.{leads, leads_none}
 use Rattle.fields.specs.Seen.{class_of}

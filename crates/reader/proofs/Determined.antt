@@ -2,10 +2,11 @@
 use mathlib.Core.Path.{refl}
 use Rattle.octets.specs.One.{OneOutcome}
 use Rattle.octets.proofs.Alike.{alike}
+use Rattle.reader.specs.contracts as contract
 use Rattle.reader.proofs as fn
 
-pub read : OneOutcome fn.read.ended fn.read.Reads.Post
+pub read : OneOutcome contract.read.ended fn.read.Reads.Post
 read κs a x y v w p q = (alike p q, refl)
 
-pub covered : OneOutcome fn.covered.ended fn.covered.Reads.Post
+pub covered : OneOutcome contract.covered.ended fn.covered.Reads.Post
 covered κs a x y v w p q = (alike p q, refl)

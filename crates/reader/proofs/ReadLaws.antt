@@ -22,7 +22,6 @@ use Rattle.csm.proofs.FieldLaws.{class_size}
 use Rattle.fields.specs.Seen.{taken, class_of, class_seen}
 use Rattle.reader.specs.Seen.{next_at, body_seen, seen}
 use Rattle.reader.specs.Stages.{taken_at, names_with, names_at, message_seen, class_named, body}
-use Rattle.fields.specs.declared.Class.{Class}
 use Rattle.reader.specs.declared.Message.TheVariants as message_is
 use Rattle.reader.proofs.RowLaws.{next_read}
 

@@ -1,4 +1,6 @@
 // From a lent text to its reading: which class, where its fields stand, and its numbers.
+#![tactic(auto)]
+
 mod options;
 mod rows;
 

@@ -1,4 +1,6 @@
 // Receive, once the partner's entry is found: by class, on one entry by value.
+#![tactic(auto)]
+
 ghost use Rattle.std.specs.Prelude.{◌≡◌, ◌^◌, ◌<◌, length};
 ghost use Rattle.csm.specs.Message as csm;
 ghost use Rattle.calls.specs.Receive as steps;

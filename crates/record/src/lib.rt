@@ -1,4 +1,6 @@
 // An entry's record: the body of kind 2, read and written by its layout.
+#![tactic(auto)]
+
 ghost use Rattle.std.specs.Prelude.{◌≡◌, ◌++◌, ◌+◌, ◌<◌, ◌≤◌, ◌^◌};
 ghost use Rattle.octets.specs.Number.{bytes};
 ghost use Rattle.octets.specs.Codec.{numeral, ◌followed_by◌, written, value_at};

@@ -1,4 +1,6 @@
 // The request that so many bytes are.
+#![tactic(auto)]
+
 ghost use Rattle.std.specs.Prelude.{◌≡◌, ◌+◌, ◌≤◌, length};
 ghost use Rattle.octets.specs.Codec.{value_at};
 ghost use Rattle.request.specs.Request as requests;

@@ -1,4 +1,6 @@
 // When an entry is legal by itself: the rules of document 01's list, in its order.
+#![tactic(auto)]
+
 ghost use Rattle.std.specs.Prelude.{◌≡◌, ◌||◌, ltb};
 ghost use Rattle.octets.specs.Text.{within, run_char};
 ghost use Rattle.partner.specs.Legal as rule;

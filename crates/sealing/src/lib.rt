@@ -1,4 +1,6 @@
 // Keys and MACs: parity, sealing, the MAC, an IV's value.
+#![tactic(auto)]
+
 ghost use Rattle.std.specs.Prelude.{◌≡◌, cond, not, get_or};
 ghost use Rattle.keying.specs.Parity.{odd};
 ghost use Rattle.keying.specs.Keys.{odd_top, seal, unseal, halves, way, each, listed};

@@ -2,40 +2,41 @@
 use mathlib.Core.Path.{refl}
 use Rattle.octets.specs.One.{OneOutcome}
 use Rattle.octets.proofs.Alike.{alike}
+use Rattle.sight.specs.contracts as contract
 use Rattle.sight.proofs as fn
 
-pub is_empty : OneOutcome fn.is_empty.ended fn.is_empty.Reads.Post
+pub is_empty : OneOutcome contract.is_empty.ended fn.is_empty.Reads.Post
 is_empty κs a x y v w p q = (alike p q, refl)
 
-pub differ : OneOutcome fn.differ.ended fn.differ.Reads.Post
+pub differ : OneOutcome contract.differ.ended fn.differ.Reads.Post
 differ κs a x y v w p q = (alike p q, refl)
 
-pub unseen : OneOutcome fn.unseen.ended fn.unseen.Reads.Post
+pub unseen : OneOutcome contract.unseen.ended fn.unseen.Reads.Post
 unseen κs a x y v w p q = (alike p q, refl)
 
-pub see : OneOutcome fn.see.ended fn.see.Reads.Post
+pub see : OneOutcome contract.see.ended fn.see.Reads.Post
 see κs a x y v w p q = (alike p q, refl)
 
-pub concluded : OneOutcome fn.concluded.ended fn.concluded.Reads.Post
+pub concluded : OneOutcome contract.concluded.ended fn.concluded.Reads.Post
 concluded κs a x y v w p q = (alike p q, refl)
 
-pub place : OneOutcome fn.place.ended fn.place.Reads.Post
+pub place : OneOutcome contract.place.ended fn.place.Reads.Post
 place κs a x y v w p q = (alike p q, refl)
 
-pub is_legal : OneOutcome fn.is_legal.ended fn.is_legal.Reads.Post
+pub is_legal : OneOutcome contract.is_legal.ended fn.is_legal.Reads.Post
 is_legal κs a x y v w p q = (alike p q, refl)
 
-pub shown : OneOutcome fn.shown.ended fn.shown.Reads.Post
+pub shown : OneOutcome contract.shown.ended fn.shown.Reads.Post
 shown κs a x y v w p q = (alike p q, refl)
 
-pub at_partner : OneOutcome fn.aims.at_partner.ended fn.aims.at_partner.Reads.Post
+pub at_partner : OneOutcome contract.aims.at_partner.ended fn.aims.at_partner.Reads.Post
 at_partner κs a x y v w p q = (alike p q, refl)
 
-pub ours : OneOutcome fn.aims.ours.ended fn.aims.ours.Reads.Post
+pub ours : OneOutcome contract.aims.ours.ended fn.aims.ours.Reads.Post
 ours κs a x y v w p q = (alike p q, refl)
 
-pub aim_of : OneOutcome fn.aims.aim_of.ended fn.aims.aim_of.Reads.Post
+pub aim_of : OneOutcome contract.aims.aim_of.ended fn.aims.aim_of.Reads.Post
 aim_of κs a x y v w p q = (alike p q, refl)
 
-pub with_room : OneOutcome fn.aims.with_room.ended fn.aims.with_room.Reads.Post
+pub with_room : OneOutcome contract.aims.with_room.ended fn.aims.with_room.Reads.Post
 with_room κs a x y v w p q = (alike p q, refl)

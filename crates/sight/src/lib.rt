@@ -1,4 +1,6 @@
 // What is seen of a row, slot by slot.
+#![tactic(auto)]
+
 ghost use Rattle.std.specs.Prelude.{◌≡◌, ◌&&◌, ◌||◌};
 ghost use Rattle.octets.specs.Text.{same};
 ghost use Rattle.partner.specs.Table.{is_empty};

@@ -35,12 +35,6 @@ slice_bounds-encipher_by-end-in-loop-left c = search rules
 pub slice_bounds-block-count : goal.slice_bounds-block-count
 slice_bounds-block-count c = search rules
 
-part-block-start : tie.Need-slice-bounds-block-start invariant-loop decreases-loop
-part-block-start c = search rules
-
-part-block-end : tie.Need-slice-bounds-block-end invariant-loop decreases-loop
-part-block-end c = search rules
-
 pub block-requires : goal.block-requires
 block-requires c = search rules
 

@@ -3,7 +3,9 @@ use mathlib.Core.Path.{◌≡◌, ap, ◌∙◌}
 use mathlib.Core.List.{List}
 use Prim.Native.Nat.{ℕ, ◌^◌, ◌<◌}
 use Rattle.dea.specs.Tables.{P}
-use Rattle.dea.specs.Dea.{permute, f}
+use lib.Bits.{bit_xor}
+use Rattle.dea.specs.Tables.{boxes}
+use Rattle.dea.specs.Dea.{permute, substitute, f}
 use Rattle.dea.proofs.Permutations.{permute_lt}
 use native.Mathlib.Omega.{arith}
 use borrow.Author.Rules.{rules}
@@ -23,4 +25,8 @@ overflow_cast-result c =
 
 pub returns : goal.returns
 unfolding f
-returns c = cc
+returns c =
+    let a = c.args in
+    c.pick.ensures
+    ∙ ap (λ (t : List ℕ). permute 32 t c.substitute.result) c.requires.1
+    ∙ ap (permute 32 P) (c.substitute.ensures ∙ ap (λ (e : ℕ). substitute (bit_xor e a.k) 0 boxes) c.expand.ensures)

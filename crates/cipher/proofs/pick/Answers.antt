@@ -15,9 +15,6 @@ loop-i-init c = (omega arith, omega arith, refl)
 pub bounds-table-i : goal.bounds-table-i
 bounds-table-i c = omega arith
 
-pub overflow_cast-t : goal.overflow_cast-t
-overflow_cast-t c = omega (arith, c.shared-slice-known.given c.loop-i.i)
-
 pub overflow_mul-bits : goal.overflow_mul-bits
 overflow_mul-bits c = omega (arith, (let low-fact : c.loop-i.bits < 2 ^ 63 = small c.loop-i.invariant.1 (omega arith) in low-fact))
 

@@ -14,4 +14,4 @@ pub returns-in-4 : goal.returns-in-4
 returns-in-4 c = sym (of_thirty c.args.year _ c.in-4.is)
 
 pub returns-in_default : goal.returns-in_default
-returns-in_default c = sym (of_thirty_one c.args.year _ c.in_default-own.rest.0.1 c.in_default-own.rest.1)
+returns-in_default c = sym (of_thirty_one c.args.year _ c.in_default.in_default-own.rest.0.1 c.in_default.in_default-own.rest.1)

@@ -1,6 +1,5 @@
 -- `fields::check_field` meets its contract: four hex digits, then four behind the blank. Assumes nothing.
 use Rattle.fields.proofs.PieceLaws.{check_read_as}
-use borrow.Author.Rules.{rules}
 use Rattle.fields.proofs.check_field.Goals as goal
 
 pub returns : goal.returns

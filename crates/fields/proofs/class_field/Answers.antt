@@ -1,7 +1,8 @@
 -- `fields::class_field` meets its contract: what is read of MCL is what is read of its contents. Assumes nothing.
-use Rattle.fields.proofs.PieceLaws.{class_found}
-use borrow.Author.Rules.{rules}
+use Rattle.fields.proofs.PieceLaws.{class_read}
 use Rattle.fields.proofs.class_field.Goals as goal
 
 pub returns : goal.returns
-returns c = let a = c.args in cc (class_found a.text.now a.at)
+returns c =
+    let a = c.args in
+    class_read a.text.now a.at c.contents-place.ensures c.part.ensures c.class.ensures

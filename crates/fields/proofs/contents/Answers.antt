@@ -2,11 +2,8 @@
 use mathlib.Core.Path.{refl, sym, ◌∙◌}
 use native.Mathlib.Omega.{arith}
 use lib.ListN.{drop, length-drop}
-use borrow.Author.Tests.{not-true, not-false}
 use Rattle.octets.proofs.Comparing.{starts_fits}
-use Rattle.fields.specs.Seen.{taken}
 use Rattle.fields.proofs.PieceLaws.{no_tag, piece_between, piece_endless}
-use borrow.Author.Rules.{rules}
 use Rattle.fields.proofs.contents.Goals as goal
 
 pub returns-then-not-starts : goal.returns-then-not-starts
@@ -23,12 +20,12 @@ overflow_add-from c =
 pub returns-then-to-text : goal.returns-then-to-text
 returns-then-to-text c =
     let k = c in
-    let yes = sym k.starts.ensures ∙ not-false _ k.if-not-starts.false in
+    let yes = sym k.starts.ensures ∙ k.if-not-starts.false in
     sym (piece_between _ _ _ _ _ yes refl c.until-to.ensures c.if-to-text.true)
 
 pub returns : goal.returns
 returns c =
     let e = c in
     let k = e in
-    let yes = sym k.starts.ensures ∙ not-false _ k.if-not-starts.false in
+    let yes = sym k.starts.ensures ∙ k.if-not-starts.false in
     rw c.missing-2.ensures (sym (piece_endless _ _ _ _ _ yes refl e.until-to.ensures e.if-to-text.false))

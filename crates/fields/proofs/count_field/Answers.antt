@@ -1,7 +1,6 @@
 -- `fields::count_field` meets its contract: what is read of it is what is read of its contents. Assumes nothing.
 use Rattle.csm.specs.Fields.{count}
 use Rattle.fields.proofs.PieceLaws.{number_read}
-use borrow.Author.Rules.{rules}
 use Rattle.fields.proofs.count_field.Goals as goal
 
 pub returns : goal.returns

@@ -5,7 +5,6 @@ use lib.ListN.{length}
 use Rattle.fields.specs.Steps.{keyed_at}
 use Rattle.octets.proofs.Parting.{part_length}
 use Rattle.fields.proofs.PieceLaws.{key_read}
-use borrow.Author.Rules.{rules}
 use Rattle.fields.proofs.key_field.Goals as goal
 
 pub key-requires : goal.key-requires
@@ -19,13 +18,12 @@ returns-in-Is c =
     let k = c in
     let a = c.args in
     key_read a.text.now a.at k.contents-place.ensures k.part.ensures
-    k.key.ensures (sym (ap (keyed_at a.at _) c.kd.given.1))
+    k.key.ensures (sym (ap (keyed_at a.at _) c.in-Is.is))
 
 pub returns : goal.returns
 returns c =
-    let e = c in
-    let k = e in
+    let k = c in
     let a = c.args in
     key_read a.text.now a.at k.contents-place.ensures k.part.ensures
     k.key.ensures ((λ i. record { kd = c.no_key.ensures i; place = c.missing.ensures i })
-    ∙ sym (ap (keyed_at a.at _) e.enum_told.given.1))
+    ∙ sym (ap (keyed_at a.at _) c.in_default.is))

@@ -1,7 +1,6 @@
 -- `fields::letters_field` meets its contract: what is read of it is what is read of its contents. Assumes nothing.
 use Rattle.csm.specs.Fields.{erf, tag, ERF}
 use Rattle.fields.proofs.PieceLaws.{number_read}
-use borrow.Author.Rules.{rules}
 use Rattle.fields.proofs.letters_field.Goals as goal
 
 pub returns : goal.returns

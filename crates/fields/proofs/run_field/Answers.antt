@@ -1,7 +1,6 @@
 -- `fields::run_field` meets its contract: what is read of it is what is read of its contents. Assumes nothing.
 use Rattle.octets.specs.Text.{is_run}
 use Rattle.fields.proofs.PieceLaws.{run_read}
-use borrow.Author.Rules.{rules}
 use Rattle.fields.proofs.run_field.Goals as goal
 
 pub returns : goal.returns

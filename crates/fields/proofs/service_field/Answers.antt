@@ -1,7 +1,6 @@
 -- `fields::service_field` meets its contract: what is read of it is what is read of its contents. Assumes nothing.
 use Rattle.csm.specs.Fields.{svr, tag, SVR}
 use Rattle.fields.proofs.PieceLaws.{number_read}
-use borrow.Author.Rules.{rules}
 use Rattle.fields.proofs.service_field.Goals as goal
 
 pub returns : goal.returns

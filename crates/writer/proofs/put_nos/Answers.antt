@@ -1,10 +1,9 @@
 -- `writer::put_nos` meets its contract: the field, or nothing. Assumes nothing.
 use Rattle.octets.proofs.Writing.{wrote_nothing}
-use borrow.Author.Rules.{rules}
 use Rattle.writer.proofs.put_nos.Goals as goal
 
 pub returns-then-notarized : goal.returns-then-notarized
-returns-then-notarized c = let w = c in rw w.if-notarized.true w.put_text.ensures
+returns-then-notarized c = rw c.if-notarized.true c.put_text.ensures
 
 pub returns : goal.returns
 returns c = rw c.if-notarized.false (wrote_nothing c.args.rest.now)

@@ -1,11 +1,8 @@
 -- `fields::keys::behind` meets its contract: the part to the end is all that is left. Assumes nothing.
-use mathlib.Core.Path.{sym}
 use Prim.Native.Nat.{◌+◌, ◌-◌}
 use native.Mathlib.Omega.{arith}
 use lib.ListN.{length, drop, length-drop}
 use lib.Seq.{take_all}
-use Rattle.octets.proofs.Comparing.{drop_end}
-use borrow.Author.Rules.{rules}
 use Rattle.fields.proofs.keys.behind.Goals as goal
 
 pub returns-then-n-w : goal.returns-then-n-w

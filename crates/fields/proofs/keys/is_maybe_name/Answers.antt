@@ -1,7 +1,6 @@
 -- `fields::keys::is_maybe_name` meets its contract: a text of no bytes is nothing. Assumes nothing.
 use native.Mathlib.Omega.{arith}
 use Rattle.fields.proofs.KeyLaws.{empty_same, full_same}
-use borrow.Author.Rules.{rules}
 use Rattle.fields.proofs.keys.is_maybe_name.Goals as goal
 
 pub returns-then-w-eq0 : goal.returns-then-w-eq0

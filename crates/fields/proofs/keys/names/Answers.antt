@@ -1,14 +1,10 @@
 -- `fields::keys::names` meets its contract: one name, or one or nothing and a second. Assumes nothing.
 use mathlib.Core.Path.{◌≡◌, refl, sym, ap, ◌∙◌}
 use mathlib.Core.Bool.{true, false}
-use Prim.Native.Nat.{◌+◌, ◌^◌, ◌<◌}
-use native.Mathlib.Omega.{arith}
-use lib.ListN.{length, take, drop}
-use borrow.Author.Tests.{not-true, not-false}
+use lib.ListN.{take}
 use Rattle.octets.specs.Text.{is_name}
 use Rattle.csm.proofs.KdTest.{is_maybe_name}
-use Rattle.fields.proofs.KeyLaws.{behind_dot, names_one, names_two}
-use borrow.Author.Rules.{rules}
+use Rattle.fields.proofs.KeyLaws.{names_one, names_two}
 use Rattle.fields.proofs.keys.names.Goals as goal
 
 pub returns-then-is_name : goal.returns-then-is_name

@@ -4,14 +4,12 @@ use mathlib.Core.Bool.{true}
 use Prim.Native.Nat.{◌≤◌}
 use native.Mathlib.Omega.{arith}
 use lib.ListN.{length}
-use borrow.Author.Tests.{eq-eqb, ne_eqb, not-true, not-false}
+use borrow.Author.Tests.{eq-eqb, ne_eqb}
 use Rattle.octets.specs.Text.{all, within, run_char, is_run}
 use Rattle.octets.proofs.Comparing.{both as and_true}
-use Rattle.csm.specs.Fields.{numeral}
 use Rattle.csm.proofs.TextLaws.{within_true}
 use Rattle.csm.proofs.WordTests.{count_value}
 use Rattle.fields.proofs.DigitLaws.{digits_of, no_zero_first}
-use borrow.Author.Rules.{rules}
 use Rattle.fields.proofs.words.count.Goals as goal
 
 pub returns-then-not-is_run : goal.returns-then-not-is_run
@@ -19,8 +17,6 @@ returns-then-not-is_run c =
     let w = c.args.w.now in
     rw (count_value w, sym c.is_run.ensures ∙ c.if-not-is_run.true)
 
--- they are digits
--- and there is one
 pub returns-then-w-eq48 : goal.returns-then-w-eq48
 returns-then-w-eq48 c =
     let k = c in

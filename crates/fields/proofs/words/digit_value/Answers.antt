@@ -1,7 +1,6 @@
 -- `fields::words::digit_value` meets its contract: each branch decides the test of `digit_value`. Assumes nothing.
 use native.Mathlib.Omega.{arith}
 use borrow.Author.Tests.{lt-ltb, le-ltb}
-use borrow.Author.Rules.{rules}
 use Rattle.fields.proofs.words.digit_value.Goals as goal
 
 pub returns-then-b-lt48 : goal.returns-then-b-lt48

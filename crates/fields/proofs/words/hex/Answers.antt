@@ -1,11 +1,8 @@
 -- `fields::words::hex` meets its contract: so many hex digits are a number's text. Assumes nothing.
 use mathlib.Core.Path.{sym, ◌∙◌}
 use native.Mathlib.Omega.{arith}
-use borrow.Author.Tests.{not-true, not-false}
-use Rattle.csm.specs.Fields.{numeral}
 use Rattle.csm.proofs.WordTests.{hex_value}
 use Rattle.fields.proofs.DigitLaws.{digits_of}
-use borrow.Author.Rules.{rules}
 use Rattle.fields.proofs.words.hex.Goals as goal
 
 pub returns-then-not-is_run : goal.returns-then-not-is_run
@@ -23,5 +20,5 @@ pub returns : goal.returns
 returns c =
     let k = c in
     let a = k.args in
-    let yes = sym k.is_run.ensures ∙ not-false _ k.if-not-is_run.false in
+    let yes = sym k.is_run.ensures ∙ k.if-not-is_run.false in
     rw (hex_value a.digits a.w.now, yes, c.numeral.ensures)

@@ -2,7 +2,6 @@
 use native.Mathlib.Omega.{arith}
 use borrow.Author.Tests.{eq-eqb, ne_eqb}
 use Rattle.octets.proofs.Comparing.{drop_step, drop_end}
-use borrow.Author.Rules.{rules}
 use Rattle.fields.proofs.words.letter_at.Goals as goal
 
 pub returns-then-w-at : goal.returns-then-w-at

@@ -1,11 +1,7 @@
 -- `fields::words::letters` meets its contract: of k letters i were found, each a bit of the value. Assumes nothing.
-use mathlib.Core.Path.{refl, sym, subst}
-use Prim.Native.Nat.{ℕ, ◌-◌, ◌≤◌}
-use native.Mathlib.Omega.{arith}
-use lib.ListN.{drop, get_or}
+use Prim.Native.Nat.{◌-◌, ◌≤◌}
 use Rattle.csm.specs.Fields.{error_letters}
-use Rattle.fields.proofs.LetterLaws.{Sought, sought_none, sought_more, here_small, Bit, bit}
-use Rattle.fields.proofs.LetterLaws.{erf_left, erf_empty, erf_found}
+use Rattle.fields.proofs.LetterLaws.{Sought}
 use Rattle.fields.proofs.words.letters.Given as goal
 
 abbrev pub invariant-loop-k : goal.invariant-loop-k

@@ -1,10 +1,8 @@
 -- `fields::words::numeral` meets its contract: all digits are n and the rest, and n is of i digits. Assumes nothing.
-use mathlib.Core.Path.{◌≡◌, refl, sym, ap, ◌∙◌}
-use Prim.Native.Nat.{ℕ, ◌+◌, ◌*◌, ◌-◌, ◌^◌, ◌≤◌, ◌<◌}
-use native.Mathlib.Omega.{arith}
+use mathlib.Core.Path.{◌≡◌}
+use Prim.Native.Nat.{◌-◌, ◌^◌, ◌≤◌, ◌<◌}
 use lib.ListN.{length, drop}
-use Rattle.csm.specs.Fields.{digit_value, numeral}
-use Rattle.fields.proofs.DigitLaws.{few_digits, digit_small, numeral_on, numeral_done, Room, room}
+use Rattle.csm.specs.Fields.{numeral}
 use Rattle.fields.proofs.words.numeral.Given as goal
 
 abbrev pub invariant-loop-i : goal.invariant-loop-i

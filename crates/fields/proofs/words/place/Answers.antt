@@ -1,9 +1,8 @@
 -- `fields::words::place` meets its contract: the place among all is k and that among those left. Assumes nothing.
-use mathlib.Core.Path.{◌≡◌, sym, ◌∙◌}
-use Prim.Native.Nat.{◌+◌, ◌-◌, ◌≤◌}
+use mathlib.Core.Path.{sym, ◌∙◌}
 use native.Mathlib.Nat.{zero-add}
 use native.Mathlib.Omega.{arith}
-use lib.ListN.{length, drop, length-drop}
+use lib.ListN.{drop, length-drop}
 use Rattle.octets.specs.Text.{blank}
 use Rattle.octets.proofs.Parting.{before_fits}
 use Rattle.csm.specs.Fields.{index}
@@ -40,3 +39,9 @@ returns c =
     let l = c in
     let a = l.args in
     sym (index_end a.table.now a.w.now l.loop-at.k l.loop-at.at l.loop-at.invariant.1 (omega arith))
+
+-- the text ends within the table
+pub slice_bounds-same-end : goal.slice_bounds-same-end
+slice_bounds-same-end c =
+    let t = c.args.table.now in
+    omega (arith, c.until-end.ensures, before_fits blank (drop c.loop-at.at t), length-drop c.loop-at.at t)

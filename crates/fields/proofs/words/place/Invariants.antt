@@ -1,14 +1,9 @@
 -- `fields::words::place` meets its contract: the place among all is k and that among those left. Assumes nothing.
-use mathlib.Core.Path.{◌≡◌, sym, ◌∙◌}
+use mathlib.Core.Path.{◌≡◌}
 use Prim.Native.Nat.{◌+◌, ◌-◌, ◌≤◌}
-use native.Mathlib.Nat.{zero-add}
-use native.Mathlib.Omega.{arith}
-use lib.ListN.{length, drop, length-drop}
-use Rattle.octets.specs.Text.{blank}
-use Rattle.octets.proofs.Parting.{before_fits}
+use lib.ListN.{length, drop}
 use Rattle.csm.specs.Fields.{index}
 use Rattle.fields.specs.Steps.{texts}
-use Rattle.fields.proofs.TableLaws.{index_here, index_on, index_end}
 use Rattle.fields.proofs.words.place.Given as goal
 
 abbrev pub invariant-loop-at : goal.invariant-loop-at

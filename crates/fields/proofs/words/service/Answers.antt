@@ -2,7 +2,6 @@
 use borrow.Author.Tests.{lt-ltb, le-ltb}
 use Rattle.csm.specs.Fields.{services}
 use Rattle.csm.proofs.WordTests.{one_of_value}
-use borrow.Author.Rules.{rules}
 use Rattle.fields.proofs.words.service.Goals as goal
 
 pub returns-then-k-lt12 : goal.returns-then-k-lt12

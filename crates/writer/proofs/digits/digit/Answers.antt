@@ -1,7 +1,6 @@
 -- `writer::digits::digit` meets its contract: digits from 48 on, capitals from 65 on. Assumes nothing.
 use native.Mathlib.Omega.{arith}
 use borrow.Author.Tests.{lt-ltb, le-ltb}
-use borrow.Author.Rules.{rules}
 use Rattle.writer.proofs.digits.digit.Goals as goal
 
 pub returns-then-d-lt10 : goal.returns-then-d-lt10

@@ -3,7 +3,6 @@ use mathlib.Core.Path.{ap, ◌∙◌}
 use Prim.Native.Nat.{ℕ, ◌/◌, ◌%◌}
 use Rattle.csm.specs.Fields.{digit}
 use Rattle.writer.proofs.Numerals.{hex_shift}
-use borrow.Author.Rules.{rules}
 use Rattle.writer.proofs.digits.digit_at.Goals as goal
 
 pub returns : goal.returns

@@ -2,11 +2,9 @@
 use mathlib.Core.Path.{ap, ◌∙◌}
 use Rattle.octets.specs.Part.{bare}
 use Rattle.octets.proofs.Writing.{wrote_as, rest_is}
-use borrow.Author.Rules.{rules}
 use Rattle.writer.proofs.digits.put_bare.Goals as goal
 
 pub returns : goal.returns
 returns c =
-    let v = c in
-    let a = v.args in
-    wrote_as (v.bare.ensures ∙ ap bare (rest_is a.at a.table.now)) c.put_text.ensures
+    let a = c.args in
+    wrote_as (c.bare.ensures ∙ ap bare (rest_is a.at a.table.now)) c.put_text.ensures

@@ -1,9 +1,9 @@
 -- `writer::digits::put_hex` meets its contract: after each turn so many digits lie over rest. Assumes nothing.
 use mathlib.Core.Path.{◌≡◌, sym, ◌∙◌}
-use Prim.Native.Nat.{◌+◌, ◌-◌}
+use Prim.Native.Nat.{◌-◌}
 use native.Mathlib.Omega.{arith}
 use lib.ListN.{length}
-use Rattle.octets.proofs.Writing.{Laying, laying_none, laying_more, laying_all}
+use Rattle.octets.proofs.Writing.{laying_none, laying_more, laying_all}
 use Rattle.csm.specs.Fields.{hex_text}
 use Rattle.csm.proofs.NumberLaws.{hex_length}
 use Rattle.writer.proofs.Numerals.{hex_at}
@@ -26,8 +26,10 @@ digit_at-requires c =
 
 pub loop-i-preserved : goal.loop-i-preserved
 loop-i-preserved c =
-    let l = c in
-    let a = l.args in
+    let a = c.args in
     let s : length (hex_text a.k a.x) ≡ a.k = hex_length a.k a.x in
-    let b = hex_at a.k a.x l.loop-i.i (l.loop-i.place - 1) (omega arith) in
-    (omega arith, laying_more l.loop-i.invariant.1 (omega arith) (c.digit_at.ensures ∙ sym b))
+    let b = hex_at a.k a.x c.loop-i.i (c.loop-i.place - 1) (omega arith) in
+    (omega arith, laying_more c.loop-i.invariant.1 (omega arith) (c.digit_at.ensures ∙ sym b))
+
+pub returns : goal.returns
+returns c = laying_all c.loop-i.invariant.1 (omega arith)

@@ -2,13 +2,11 @@
 use Prim.Native.Nat.{◌%◌}
 use borrow.Author.Tests.{eq-eqb, ne_eqb}
 use Rattle.octets.proofs.Writing.{wrote_nothing}
-use borrow.Author.Rules.{rules}
 use Rattle.writer.proofs.digits.put_letter.Goals as goal
 
 pub returns-then-left-eq1 : goal.returns-then-left-eq1
 returns-then-left-eq1 c =
-    let w = c in
-    rw (eq-eqb (w.args.left % 2) 1 w.if-left-eq1.true) w.fill.ensures
+    rw (eq-eqb (c.args.left % 2) 1 c.if-left-eq1.true) c.fill.ensures
 
 pub returns : goal.returns
 returns c =

@@ -1,8 +1,6 @@
 -- `writer::digits::put_letters` meets its contract: the letters written and left are all. Assumes nothing.
-use Prim.Native.Nat.{◌-◌}
 use native.Mathlib.Omega.{arith}
-use Rattle.writer.proofs.Letters.{Spelling, spelling_none, spelling_more, spelling_all}
-use borrow.Author.Rules.{rules}
+use Rattle.writer.proofs.Letters.{spelling_none, spelling_more}
 use Rattle.writer.proofs.digits.put_letters.Goals as goal
 
 pub loop-i-init : goal.loop-i-init
@@ -12,5 +10,4 @@ loop-i-init c =
 
 pub loop-i-preserved : goal.loop-i-preserved
 loop-i-preserved c =
-    let w = c in
-    spelling_more w.loop-i.invariant (omega arith) w.put_letter-n.ensures
+    spelling_more c.loop-i.invariant (omega arith) c.put_letter-n.ensures

@@ -1,8 +1,6 @@
 -- `writer::digits::put_letters` meets its contract: the letters written and left are all. Assumes nothing.
 use Prim.Native.Nat.{◌-◌}
-use native.Mathlib.Omega.{arith}
-use Rattle.writer.proofs.Letters.{Spelling, spelling_none, spelling_more, spelling_all}
-use borrow.Author.Rules.{rules}
+use Rattle.writer.proofs.Letters.{Spelling}
 use Rattle.writer.proofs.digits.put_letters.Given as goal
 
 abbrev pub invariant-loop-i : goal.invariant-loop-i

@@ -2,7 +2,6 @@
 use native.Mathlib.Omega.{arith}
 use Rattle.writer.proofs.Services.{table, service_at, no_service}
 use Rattle.octets.proofs.Writing.{wrote_as, wrote_nothing}
-use borrow.Author.Rules.{rules}
 use Rattle.writer.proofs.digits.put_service.Goals as goal
 
 pub returns-then-service-ge12 : goal.returns-then-service-ge12
@@ -13,5 +12,4 @@ returns-then-service-ge12 c =
 pub returns : goal.returns
 unfolding table
 returns c =
-    let w = c in
-    wrote_as (service_at w.args.service (omega arith)) w.put_bare.ensures
+    wrote_as (service_at c.args.service (omega arith)) c.put_bare.ensures

@@ -3,7 +3,6 @@ use mathlib.Core.List.{[], ◌∷◌, append_assoc}
 use Rattle.octets.specs.Text.{blank}
 use Rattle.csm.specs.Fields.{hex_text}
 use Rattle.octets.proofs.Writing.{wrote_rest, wrote_as}
-use borrow.Author.Rules.{rules}
 use Rattle.writer.proofs.digits.put_vector.Goals as goal
 
 pub returns : goal.returns

@@ -1,25 +1,21 @@
 -- `writer::kd::put_kd` meets its contract: tag and digits, subfields, blank, one after the other. Assumes nothing.
--- the tag, the digits, the subfields and the blank, grouped as the format has them
 use mathlib.Core.Path.{◌≡◌}
 use mathlib.Core.List.{[], ◌∷◌, ◌++◌, append_assoc}
 use Rattle.octets.specs.Text.{Text, ascii, blank}
 use Rattle.octets.proofs.Writing.{wrote_rest, wrote_as}
 use Rattle.csm.specs.Fields.{hex_text, subfields, nonempty}
-use borrow.Author.Rules.{rules}
 use Rattle.writer.proofs.kd.put_kd.Goals as goal
 
+-- the tag, the digits, the subfields and the blank, grouped as the format has them
 grouped : (t h s b : Text) → ((t ++ h) ++ s) ++ b ≡ t ++ ((h ++ s) ++ b)
 grouped t h s b = simp append_assoc
 
 pub returns : goal.returns
 returns c =
-    let w = c in
-    let v = w in
-    let u = v in
-    let key = u.args.key in
+    let key = c.args.key in
     let h = hex_text 16 key.sealed in
-    let idk1 = v.bare.ensures in
-    let idk2 = v.bare-2.ensures in
+    let idk1 = c.bare.ensures in
+    let idk2 = c.bare-2.ensures in
     wrote_as
     (λ i. grouped (ascii "KD/") h (subfields key.p (nonempty (idk1 i)) (nonempty (idk2 i))) (blank ∷ []) i)
     (search wrote_rest)

@@ -1,9 +1,7 @@
 -- `writer::kd::put_name` meets its contract: a dot, then the name. Assumes nothing.
 use Rattle.octets.proofs.Writing.{wrote_rest}
-use borrow.Author.Rules.{rules}
 use Rattle.writer.proofs.kd.put_name.Goals as goal
 
 pub returns : goal.returns
 returns c =
-    let w = c in
-    wrote_rest w.put_text-a.ensures w.put_text.ensures
+    wrote_rest c.put_text-a.ensures c.put_text.ensures

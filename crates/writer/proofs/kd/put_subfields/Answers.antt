@@ -2,7 +2,6 @@
 use native.Mathlib.Omega.{arith}
 use Rattle.writer.proofs.Subfields.{three, two, marked, bare_key}
 use Rattle.octets.proofs.Writing.{wrote_rest, wrote_as, wrote_nothing}
-use borrow.Author.Rules.{rules}
 use Rattle.writer.proofs.kd.put_subfields.Goals as goal
 
 pub returns-then-idk2-gt0 : goal.returns-then-idk2-gt0
@@ -12,16 +11,14 @@ returns-then-idk2-gt0 c =
 
 pub returns-then-idk1-gt0 : goal.returns-then-idk1-gt0
 returns-then-idk1-gt0 c =
-    let w = c in
-    let a = w.args in
-    wrote_as (two a.p a.idk1.now a.idk2.now (omega arith) (omega arith)) w.put_two.ensures
+    let a = c.args in
+    wrote_as (two a.p a.idk1.now a.idk2.now (omega arith) (omega arith)) c.put_two.ensures
 
 pub returns-then-p : goal.returns-then-p
 returns-then-p c =
-    let w = c in
-    let a = w.args in
-    wrote_as (marked a.p a.idk1.now a.idk2.now (omega arith) (omega arith) w.if-p.true)
-    w.put_mark.ensures
+    let a = c.args in
+    wrote_as (marked a.p a.idk1.now a.idk2.now (omega arith) (omega arith) c.if-p.true)
+    c.put_mark.ensures
 
 pub returns : goal.returns
 returns c =

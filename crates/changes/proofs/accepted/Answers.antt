@@ -1,0 +1,8 @@
+-- Field by field, the count risen.
+use borrow.Author.Rules.{rules}
+use Rattle.partner.specs.Changes.{accepted}
+use Rattle.changes.proofs.accepted.Goals as goal
+
+pub returns : goal.returns
+unfolding accepted
+returns c = cc

@@ -1,0 +1,8 @@
+-- Field by field, the count the larger.
+use borrow.Author.Rules.{rules}
+use Rattle.partner.specs.Changes.{failed}
+use Rattle.changes.proofs.failed.Goals as goal
+
+pub returns : goal.returns
+unfolding failed
+returns c = cc

@@ -1,0 +1,8 @@
+-- Field by field.
+use borrow.Author.Rules.{rules}
+use Rattle.partner.specs.Changes.{given_up}
+use Rattle.changes.proofs.given_up.Goals as goal
+
+pub returns : goal.returns
+unfolding given_up
+returns c = cc

@@ -1,0 +1,6 @@
+-- `outcome::plain` meets its contract, part by part. Assumes nothing.
+use borrow.Author.Rules.{rules}
+use Rattle.outcome.proofs.plain.Goals as goal
+
+pub returns : goal.returns
+returns c = cc

@@ -1,0 +1,8 @@
+-- Place by place.
+use borrow.Author.Rules.{rules}
+use Rattle.partner.specs.Units.{set_formed}
+use Rattle.record.proofs.legal.set_formed.Goals as goal
+
+pub returns : goal.returns
+unfolding set_formed
+returns c = cc

@@ -1,0 +1,9 @@
+-- Key, then name.
+use borrow.Author.Rules.{rules}
+use Rattle.octets.proofs.Writing.{wrote_rest}
+use Rattle.record.proofs.put_place.Goals as goal
+
+pub returns : goal.returns
+returns c =
+    let second = c in
+    wrote_rest second.put_number-a.ensures second.copy.ensures

@@ -1,0 +1,9 @@
+-- Set after set.
+use borrow.Author.Rules.{rules}
+use Rattle.octets.proofs.Writing.{wrote_rest}
+use Rattle.record.proofs.put_sets.Goals as goal
+
+pub returns : goal.returns
+returns c =
+    let second = c in
+    wrote_rest second.put_set-a.ensures second.put_set.ensures

@@ -1,0 +1,15 @@
+-- Number after number.
+use mathlib.Core.List.{append_assoc}
+use borrow.Author.Rules.{rules}
+use Rattle.octets.specs.Number.{bytes}
+use Rattle.octets.proofs.Writing.{wrote_rest, wrote_as}
+use Rattle.record.proofs.put_top.Goals as goal
+
+pub returns : goal.returns
+returns c =
+    let third = c in
+    let second = third in
+    let first = second in
+    let k = first.args.k in
+    wrote_as (append_assoc (bytes 1 k.form) (bytes 8 k.left) (bytes 8 k.right))
+    (wrote_rest (wrote_rest first.put_number-a.ensures second.put_number.ensures) third.put_number-2.ensures)

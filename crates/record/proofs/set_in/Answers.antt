@@ -1,0 +1,6 @@
+-- Part by part.
+use borrow.Author.Rules.{rules}
+use Rattle.record.proofs.set_in.Goals as goal
+
+pub returns : goal.returns
+returns c = cc

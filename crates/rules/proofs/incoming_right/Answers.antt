@@ -1,0 +1,6 @@
+-- By the expected count.
+use borrow.Author.Rules.{rules}
+use Rattle.rules.proofs.incoming_right.Goals as goal
+
+pub returns : goal.returns
+returns c = cc

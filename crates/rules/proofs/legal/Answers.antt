@@ -1,0 +1,8 @@
+-- No rule is broken.
+use borrow.Author.Rules.{rules}
+use Rattle.partner.specs.Legal.{legal}
+use Rattle.rules.proofs.legal.Goals as goal
+
+pub returns : goal.returns
+unfolding legal
+returns c = cc

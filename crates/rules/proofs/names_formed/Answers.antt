@@ -1,0 +1,8 @@
+-- Test by test.
+use borrow.Author.Rules.{rules}
+use Rattle.partner.specs.Legal.{names_formed}
+use Rattle.rules.proofs.names_formed.Goals as goal
+
+pub returns : goal.returns
+unfolding names_formed
+returns c = cc

@@ -1,0 +1,8 @@
+-- Rule by rule.
+use borrow.Author.Rules.{rules}
+use Rattle.partner.specs.Units.{receiving_right}
+use Rattle.rules.proofs.receiving_right.Goals as goal
+
+pub returns : goal.returns
+unfolding receiving_right
+returns c = cc

@@ -1,0 +1,8 @@
+-- Rule by rule.
+use borrow.Author.Rules.{rules}
+use Rattle.partner.specs.Units.{sending_right}
+use Rattle.rules.proofs.sending_right.Goals as goal
+
+pub returns : goal.returns
+unfolding sending_right
+returns c = cc

@@ -1,0 +1,8 @@
+-- Place by place.
+use borrow.Author.Rules.{rules}
+use Rattle.partner.specs.Legal.{set_clean}
+use Rattle.rules.proofs.set_clean.Goals as goal
+
+pub returns : goal.returns
+unfolding set_clean
+returns c = cc

@@ -1,0 +1,8 @@
+-- Key by key.
+use borrow.Author.Rules.{rules}
+use Rattle.partner.specs.Legal.{set_named}
+use Rattle.rules.proofs.set_named.Goals as goal
+
+pub returns : goal.returns
+unfolding set_named
+returns c = cc
