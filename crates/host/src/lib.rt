@@ -26,12 +26,7 @@ fn told(report: &mut [u8; 32], r: Report) -> u32
 }
 
 // Receive: 13, 6, 1, 2, 3, then by class.
-pub fn khl_receive(
-    image: &mut [u8],
-    text: &[u8],
-    reply: &mut [u8],
-    report: &mut [u8; 32],
-) -> u32
+pub fn khl_receive(image: &mut [u8], text: &[u8], reply: &mut [u8], report: &mut [u8; 32]) -> u32
     ensures { contracts.ChangesAndWrites image.old
         (calls.receive (length reply.old) text.now)
         reply.old result image.new reply.new report.new }
@@ -71,12 +66,7 @@ pub fn khl_build_rsi(
 }
 
 // Ask for an entry: 13, 6, 3.
-pub fn khl_ask(
-    image: &[u8],
-    partner: &[u8],
-    reply: &mut [u8],
-    report: &mut [u8; 32],
-) -> u32
+pub fn khl_ask(image: &[u8], partner: &[u8], reply: &mut [u8], report: &mut [u8; 32]) -> u32
     ensures { contracts.Writes
         (whole.ask_over image.now (length reply.old) partner.now)
         reply.old result reply.new report.new }
@@ -119,12 +109,7 @@ pub fn khl_load(
 }
 
 // Remove: 13, 6, 3.
-pub fn khl_remove(
-    image: &[u8],
-    partner: &[u8],
-    out: &mut [u8],
-    report: &mut [u8; 32],
-) -> u32
+pub fn khl_remove(image: &[u8], partner: &[u8], out: &mut [u8], report: &mut [u8; 32]) -> u32
     ensures { contracts.Writes
         (whole.remove_over image.now (length out.old) partner.now)
         out.old result out.new report.new }
