@@ -19,7 +19,7 @@ THEOREMS = {"Claims", "Numbers", "Examples", "Orders"}
 THEOREMS |= {f"calls/specs/{name}" for name in ("Good", "Results", "Steps", "Refusals")}
 THEOREMS |= {f"demands/specs/{name}" for name in ("Demands", "Face", "Terms", "Hosts")}
 THEOREMS |= {"octets/specs/First", "octets/specs/One", "line/specs/Line", "worked/specs/Worked"}
-THEOREMS |= {"firmware/specs/Firmware", "firmware/specs/Contracts"}
+THEOREMS |= {"firmware/specs/Firmware", "firmware/specs/Promises"}
 PARTS = ["|", "Beneath the calls", "No public contract"]
 
 MODULE = r"Rattle\.(\w+)\.(specs|proofs)\.([A-Z]\w*)"

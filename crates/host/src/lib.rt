@@ -10,7 +10,7 @@ ghost use Rattle.card.specs.Over as over;
 ghost use Rattle.card.specs.Whole as whole;
 ghost use Rattle.host.specs.Report as reports;
 ghost use Rattle.request.specs.Request as requests;
-ghost use Rattle.host.specs.Contracts as contracts;
+ghost use Rattle.host.specs.Promises as contracts;
 
 use outcome::Report;
 

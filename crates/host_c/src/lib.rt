@@ -8,7 +8,7 @@ ghost use Rattle.calls.specs.Calls as calls;
 ghost use Rattle.card.specs.Over as over;
 ghost use Rattle.card.specs.Whole as whole;
 ghost use Rattle.request.specs.Request as requests;
-ghost use Rattle.host.specs.Contracts as contracts;
+ghost use Rattle.host.specs.Promises as contracts;
 
 // Receive: 13, 6, 1, 2, 3, then by class.
 #[unsafe(no_mangle)]
