@@ -9,7 +9,6 @@ use Rattle.calls.specs.Build.{give_up}
 use Rattle.calls.proofs.Tests.{if_true, if_false}
 use Rattle.building.specs.Parts.{fronted}
 use Rattle.building.proofs.Turning.{refuses, does}
-use borrow.Author.Rules.{rules}
 use Rattle.building.proofs.give_up.Goals as goal
 
 pub returns-then-sending-ne-WAITING : goal.returns-then-sending-ne-WAITING

@@ -1,8 +1,8 @@
 -- The iterations still to come, from the halves so far, give the whole.
 use mathlib.Core.Path.{◌≡◌, sym, ap, ◌∙◌}
 use mathlib.Core.List.{reverse}
-use Prim.Native.Nat.{ℕ, suc, ◌≤◌, ◌<◌, ◌-◌, ◌^◌}
-use lib.ListN.{length, take, get_or}
+use Prim.Native.Nat.{ℕ, suc, ◌-◌}
+use lib.ListN.{take, get_or}
 use Rattle.dea.specs.Dea.{iterate}
 use Rattle.dea.proofs.Laws.{step_lt}
 use Rattle.cipher.proofs.Walks.{step_back, start_back, finish_back}

@@ -1,13 +1,9 @@
 -- The iterations still to come, from the halves so far, give the whole.
-use mathlib.Core.Path.{◌≡◌, sym, ap, ◌∙◌}
+use mathlib.Core.Path.{◌≡◌}
 use mathlib.Core.List.{reverse}
-use Prim.Native.Nat.{ℕ, suc, ◌≤◌, ◌<◌, ◌-◌, ◌^◌}
-use lib.ListN.{length, take, get_or}
+use Prim.Native.Nat.{◌≤◌, ◌<◌, ◌^◌}
+use lib.ListN.{length, take}
 use Rattle.dea.specs.Dea.{iterate}
-use Rattle.dea.proofs.Laws.{step_lt}
-use Rattle.cipher.proofs.Walks.{step_back, start_back, finish_back}
-use borrow.Author.Rules.{rules}
-use native.Mathlib.Omega.{arith}
 use Rattle.cipher.proofs.backward.Given as goal
 
 abbrev pub invariant-loop-round : goal.invariant-loop-round

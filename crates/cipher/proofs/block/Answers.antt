@@ -1,10 +1,8 @@
 -- The number so far and the bytes from i on, zero past the end, are the first block.
-use mathlib.Core.Path.{◌≡◌, refl}
-use Prim.Native.Nat.{◌-◌, ◌*◌, ◌^◌, ◌≤◌, ◌<◌}
-use lib.ListN.{drop}
-use Rattle.octets.specs.Number.{number, number_after}
+use mathlib.Core.Path.{refl}
+use Rattle.octets.specs.Number.{number}
 use Rattle.dea.specs.Chain.{first_block}
-use Rattle.dea.proofs.Blocks.{padded, byte_step, byte_more, byte_low, block_end}
+use Rattle.dea.proofs.Blocks.{byte_step, byte_more, byte_low, block_end}
 use borrow.Author.Rules.{rules}
 use native.Mathlib.Omega.{arith}
 use Rattle.cipher.proofs.block.Goals as goal

@@ -1,12 +1,10 @@
 -- The number so far and the bytes from i on, zero past the end, are the first block.
-use mathlib.Core.Path.{◌≡◌, refl}
+use mathlib.Core.Path.{◌≡◌}
 use Prim.Native.Nat.{◌-◌, ◌*◌, ◌^◌, ◌≤◌, ◌<◌}
 use lib.ListN.{drop}
-use Rattle.octets.specs.Number.{number, number_after}
+use Rattle.octets.specs.Number.{number_after}
 use Rattle.dea.specs.Chain.{first_block}
-use Rattle.dea.proofs.Blocks.{padded, byte_step, byte_more, byte_low, block_end}
-use borrow.Author.Rules.{rules}
-use native.Mathlib.Omega.{arith}
+use Rattle.dea.proofs.Blocks.{padded}
 use Rattle.cipher.proofs.block.Given as goal
 
 abbrev pub invariant-loop-i : goal.invariant-loop-i

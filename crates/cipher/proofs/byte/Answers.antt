@@ -1,8 +1,7 @@
 -- A byte is below 256, and zero stands past the end.
-use mathlib.Core.Path.{refl, sym}
+use mathlib.Core.Path.{sym}
 use lib.ListN.{get_or-eq_default}
 use native.Mathlib.Omega.{arith}
-use borrow.Author.Rules.{rules}
 use Rattle.cipher.proofs.byte.Goals as goal
 
 pub returns-else-i-s : goal.returns-else-i-s

@@ -1,10 +1,10 @@
 -- The output so far, chained over what is left of the text, is the whole.
 use mathlib.Core.Path.{◌≡◌, ap, ◌∙◌}
-use Prim.Native.Nat.{ℕ, ◌+◌, ◌-◌, ◌/◌, ◌≤◌}
+use Prim.Native.Nat.{ℕ, ◌-◌}
 use lib.ListN.{length, drop}
 use lib.Bits.{bit_xor}
 use Rattle.dea.specs.Dea.{cipher}
-use Rattle.dea.specs.Chain.{first_block, blocks, chain, chained}
+use Rattle.dea.specs.Chain.{first_block}
 use Rattle.octets.proofs.Writing.{rest_is}
 use Rattle.dea.proofs.Blocks.{chain_step, chain_start, chain_end}
 use borrow.Author.Rules.{rules}

@@ -1,14 +1,8 @@
 -- The output so far, chained over what is left of the text, is the whole.
-use mathlib.Core.Path.{◌≡◌, ap, ◌∙◌}
-use Prim.Native.Nat.{ℕ, ◌+◌, ◌-◌, ◌/◌, ◌≤◌}
+use mathlib.Core.Path.{◌≡◌}
+use Prim.Native.Nat.{◌+◌, ◌-◌, ◌/◌, ◌≤◌}
 use lib.ListN.{length, drop}
-use lib.Bits.{bit_xor}
-use Rattle.dea.specs.Dea.{cipher}
-use Rattle.dea.specs.Chain.{first_block, blocks, chain, chained}
-use Rattle.octets.proofs.Writing.{rest_is}
-use Rattle.dea.proofs.Blocks.{chain_step, chain_start, chain_end}
-use borrow.Author.Rules.{rules}
-use native.Mathlib.Omega.{arith}
+use Rattle.dea.specs.Chain.{blocks, chain, chained}
 use Rattle.cipher.proofs.chain.Given as goal
 
 abbrev pub invariant-loop-left : goal.invariant-loop-left

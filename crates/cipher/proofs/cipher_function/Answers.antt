@@ -8,7 +8,6 @@ use Rattle.dea.specs.Tables.{boxes}
 use Rattle.dea.specs.Dea.{permute, substitute, f}
 use Rattle.dea.proofs.Permutations.{permute_lt}
 use native.Mathlib.Omega.{arith}
-use borrow.Author.Rules.{rules}
 use Rattle.cipher.proofs.cipher_function.Goals as goal
 
 pub pick-requires : goal.pick-requires

@@ -1,6 +1,5 @@
 -- As the definition has it.
 use Rattle.dea.specs.Dea.{decipher}
-use borrow.Author.Rules.{rules}
 use Rattle.cipher.proofs.decipher.Goals as goal
 
 pub returns : goal.returns

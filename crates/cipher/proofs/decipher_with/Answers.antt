@@ -1,6 +1,5 @@
 -- As the definition has it.
 use Rattle.dea.specs.Dea.{cipher}
-use borrow.Author.Rules.{rules}
 use Rattle.cipher.proofs.decipher_with.Goals as goal
 
 pub returns : goal.returns

@@ -1,6 +1,5 @@
 -- As the definition has it.
 use Rattle.dea.specs.Dea.{cipher}
-use borrow.Author.Rules.{rules}
 use Rattle.cipher.proofs.encipher_by.Goals as goal
 
 pub returns : goal.returns

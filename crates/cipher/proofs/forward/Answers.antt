@@ -1,8 +1,6 @@
 -- The iterations still to come, from the halves so far, give the whole.
-use mathlib.Core.Path.{◌≡◌, refl, ◌∙◌}
-use Prim.Native.Nat.{◌≤◌, ◌<◌, ◌-◌, ◌^◌}
-use lib.ListN.{length, drop, get_or}
-use Rattle.dea.specs.Dea.{iterate}
+use mathlib.Core.Path.{refl, ◌∙◌}
+use lib.ListN.{get_or}
 use Rattle.dea.proofs.Laws.{step_lt}
 use Rattle.cipher.proofs.Walks.{step, finish}
 use borrow.Author.Rules.{rules}

@@ -1,12 +1,8 @@
 -- The iterations still to come, from the halves so far, give the whole.
-use mathlib.Core.Path.{◌≡◌, refl, ◌∙◌}
+use mathlib.Core.Path.{◌≡◌}
 use Prim.Native.Nat.{◌≤◌, ◌<◌, ◌-◌, ◌^◌}
-use lib.ListN.{length, drop, get_or}
+use lib.ListN.{length, drop}
 use Rattle.dea.specs.Dea.{iterate}
-use Rattle.dea.proofs.Laws.{step_lt}
-use Rattle.cipher.proofs.Walks.{step, finish}
-use borrow.Author.Rules.{rules}
-use native.Mathlib.Omega.{arith}
 use Rattle.cipher.proofs.forward.Given as goal
 
 abbrev pub invariant-loop-round : goal.invariant-loop-round

@@ -1,6 +1,5 @@
 -- Five exchanges are the permutation.
 use Rattle.cipher.proofs.Exchanges.{inverse}
-use borrow.Author.Rules.{rules}
 use Rattle.cipher.proofs.ip_inverse.Goals as goal
 
 pub returns : goal.returns

@@ -1,7 +1,6 @@
 -- A word of 64 bits loses no bit of 28 shifted by at most two.
 use Rattle.cipher.proofs.Walks.{shift_is, shift_lt}
 use native.Mathlib.Omega.{arith}
-use borrow.Author.Rules.{rules}
 use Rattle.cipher.proofs.left_shift.Goals as goal
 
 pub overflow_add-result : goal.overflow_add-result

@@ -1,11 +1,8 @@
 -- The bits so far and those that the rest of the table names are the whole permuted block.
-use mathlib.Core.Path.{◌≡◌, refl}
+use mathlib.Core.Path.{◌≡◌}
 use Prim.Native.Nat.{◌≤◌, ◌<◌, ◌-◌, ◌^◌}
-use lib.ListN.{length, drop, get_or}
-use Rattle.dea.specs.Dea.{gather, permute, bit}
-use Rattle.cipher.proofs.Picks.{named_at, walk, grows, small, walked}
-use borrow.Author.Rules.{rules}
-use native.Mathlib.Omega.{arith}
+use lib.ListN.{length, drop}
+use Rattle.dea.specs.Dea.{gather, permute}
 use Rattle.cipher.proofs.pick.Given as goal
 
 abbrev pub invariant-loop-i : goal.invariant-loop-i

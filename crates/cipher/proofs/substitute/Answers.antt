@@ -1,9 +1,5 @@
 -- The bits so far and what the boxes from i on give are the whole; i boxes give 4 i bits.
-use mathlib.Core.Path.{◌≡◌, refl}
-use Prim.Native.Nat.{◌-◌, ◌*◌, ◌^◌, ◌≤◌, ◌<◌}
-use lib.ListN.{drop}
-use Rattle.dea.specs.Tables.{boxes as selections}
-use Rattle.dea.specs.Dea as dea
+use mathlib.Core.Path.{refl}
 use Rattle.cipher.proofs.Substitution.{select_step, all_selected, four_more, bits_low}
 use borrow.Author.Rules.{rules}
 use native.Mathlib.Omega.{arith}

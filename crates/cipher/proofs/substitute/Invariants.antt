@@ -1,12 +1,9 @@
 -- The bits so far and what the boxes from i on give are the whole; i boxes give 4 i bits.
-use mathlib.Core.Path.{◌≡◌, refl}
+use mathlib.Core.Path.{◌≡◌}
 use Prim.Native.Nat.{◌-◌, ◌*◌, ◌^◌, ◌≤◌, ◌<◌}
 use lib.ListN.{drop}
 use Rattle.dea.specs.Tables.{boxes as selections}
 use Rattle.dea.specs.Dea as dea
-use Rattle.cipher.proofs.Substitution.{select_step, all_selected, four_more, bits_low}
-use borrow.Author.Rules.{rules}
-use native.Mathlib.Omega.{arith}
 use Rattle.cipher.proofs.substitute.Given as goal
 
 abbrev pub invariant-loop-i : goal.invariant-loop-i

@@ -1,6 +1,5 @@
 -- Month by month.
 use mathlib.Core.Path.{sym, ◌∙◌}
-use borrow.Author.Rules.{rules}
 use Rattle.dates.proofs.Calendar.{february, of_thirty, of_thirty_one}
 use Rattle.dates.proofs.days_in.Goals as goal
 

@@ -2,7 +2,6 @@
 use mathlib.Core.Path.{◌≡◌, sym, ◌∙◌}
 use mathlib.Core.Bool.{true}
 use lib.Dec.{lit<}
-use borrow.Author.Rules.{rules}
 use Rattle.octets.specs.Text.{is_run}
 use Rattle.dates.specs.Date.{two, is_day, is_time}
 use Rattle.dates.proofs.Calendar.{same_three, date_then, no_day, no_run}

@@ -1,7 +1,6 @@
 -- Test by test.
 use mathlib.Core.Path.{sym, ap, ◌∙◌}
 use Prim.Native.Nat.{ℕ}
-use borrow.Author.Rules.{rules}
 use Rattle.octets.specs.Text.{within}
 use Rattle.dates.specs.Date.{is_day}
 use Rattle.octets.proofs.Comparing.{and_then, and_else}

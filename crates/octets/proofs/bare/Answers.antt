@@ -8,7 +8,6 @@ use lib.Seq.{length-take-le}
 use Rattle.octets.specs.Text.{blank}
 use Rattle.octets.specs.Part.{before}
 use Rattle.octets.proofs.Parting.{before_fits}
-use borrow.Author.Rules.{rules}
 use Rattle.octets.proofs.bare.Goals as goal
 
 pub slice_bounds-result-end : goal.slice_bounds-result-end

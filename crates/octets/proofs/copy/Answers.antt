@@ -1,8 +1,7 @@
 -- `octets::copy` meets its contract: after each turn so many bytes of src lie over rest. Assumes nothing.
 use mathlib.Core.Path.{refl}
-use Prim.Native.Nat.{◌-◌}
 use native.Mathlib.Omega.{arith}
-use Rattle.octets.proofs.Writing.{Laying, laying_none, laying_more, laying_all}
+use Rattle.octets.proofs.Writing.{laying_none, laying_more, laying_all}
 use Rattle.octets.proofs.copy.Goals as goal
 
 pub smaller-n-requires : goal.smaller-n-requires

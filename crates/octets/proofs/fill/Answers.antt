@@ -1,11 +1,10 @@
 -- `octets::fill` meets its contract: after each turn so many copies of b lie over rest. Assumes nothing.
 use mathlib.Core.Path.{◌≡◌, sym}
-use Prim.Native.Nat.{◌-◌}
 use native.Mathlib.Omega.{arith}
 use lib.ListN.{length}
 use Rattle.octets.specs.Number.{copies}
 use Rattle.octets.proofs.Numbers.{length_copies, copies_at}
-use Rattle.octets.proofs.Writing.{Laying, laying_none, laying_more, laying_all}
+use Rattle.octets.proofs.Writing.{laying_none, laying_more, laying_all}
 use Rattle.octets.proofs.fill.Goals as goal
 
 pub smaller-n-requires : goal.smaller-n-requires

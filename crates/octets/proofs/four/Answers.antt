@@ -1,7 +1,6 @@
 -- `octets::four` meets its contract: a sum by the places of the bytes. Assumes nothing.
 use mathlib.Core.Path.{ap}
 use native.Mathlib.Omega.{arith}
-use borrow.Author.Rules.{rules}
 use Rattle.octets.specs.Text.{Text}
 use Rattle.octets.specs.Number.{number}
 use Rattle.octets.proofs.Words.{picked_all}

@@ -1,8 +1,7 @@
 -- `octets::gathered` meets its contract: after i bytes x is their number, as far as 64 bits hold it. Assumes nothing.
-use mathlib.Core.Path.{◌≡◌, refl, ap, ◌∙◌}
-use Prim.Native.Nat.{◌≤◌, ◌-◌, ◌%◌, ◌^◌}
+use mathlib.Core.Path.{refl, ap, ◌∙◌}
+use Prim.Native.Nat.{◌%◌, ◌^◌}
 use native.Mathlib.Omega.{arith}
-use lib.ListN.{length, take}
 use lib.Seq.{take_all}
 use Rattle.octets.specs.Text.{Text}
 use Rattle.octets.specs.Number.{number}

@@ -1,12 +1,8 @@
 -- `octets::gathered` meets its contract: after i bytes x is their number, as far as 64 bits hold it. Assumes nothing.
-use mathlib.Core.Path.{◌≡◌, refl, ap, ◌∙◌}
+use mathlib.Core.Path.{◌≡◌}
 use Prim.Native.Nat.{◌≤◌, ◌-◌, ◌%◌, ◌^◌}
-use native.Mathlib.Omega.{arith}
 use lib.ListN.{length, take}
-use lib.Seq.{take_all}
-use Rattle.octets.specs.Text.{Text}
 use Rattle.octets.specs.Number.{number}
-use Rattle.octets.proofs.Numbers.{number_step}
 use Rattle.octets.proofs.gathered.Given as goal
 
 abbrev pub invariant-loop-i : goal.invariant-loop-i

@@ -1,10 +1,9 @@
 -- `octets::is_run` meets its contract: what is asked of all bytes is what is asked of the rest. Assumes nothing.
-use mathlib.Core.Path.{◌≡◌, refl, sym, ◌∙◌}
-use Prim.Native.Nat.{◌≤◌, ◌-◌}
+use mathlib.Core.Path.{refl, sym, ◌∙◌}
 use native.Mathlib.Omega.{arith}
-use lib.ListN.{length, drop}
-use borrow.Author.Tests.{le-leb, lt-leb, not-true, not-false}
-use Rattle.octets.specs.Text.{all, run_char}
+use lib.ListN.{length}
+use borrow.Author.Tests.{le-leb, lt-leb}
+use Rattle.octets.specs.Text.{run_char}
 use Rattle.octets.proofs.Comparing.{all_fails, all_on, all_done}
 use Rattle.octets.proofs.is_run.Goals as goal
 

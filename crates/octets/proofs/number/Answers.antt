@@ -1,7 +1,6 @@
 -- `octets::number` meets its contract: eight bytes fit. Assumes nothing.
 use mathlib.Core.Path.{sym, ◌∙◌}
 use native.Mathlib.Omega.{arith}
-use borrow.Author.Rules.{rules}
 use Rattle.octets.specs.Text.{Text}
 use Rattle.octets.proofs.Comparing.{octets_lent}
 use Rattle.octets.proofs.Numbers.{number_fits}

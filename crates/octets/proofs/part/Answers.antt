@@ -7,7 +7,6 @@ use lib.Seq.{length-take-le, take_all}
 use Rattle.octets.specs.Text.{Text}
 use Rattle.octets.specs.Part.{part}
 use Rattle.octets.proofs.Parting.{take_empty}
-use borrow.Author.Rules.{rules}
 use Rattle.octets.proofs.part.Goals as goal
 
 pub returns-then-s-at : goal.returns-then-s-at

@@ -1,11 +1,11 @@
 -- `octets::put_number` meets its contract: after each turn so many bytes of the number lie over rest. Assumes nothing.
 use mathlib.Core.Path.{◌≡◌, sym, ◌∙◌}
-use Prim.Native.Nat.{◌+◌, ◌-◌}
+use Prim.Native.Nat.{◌-◌}
 use native.Mathlib.Omega.{arith}
 use lib.ListN.{length}
 use Rattle.octets.specs.Number.{bytes}
 use Rattle.octets.proofs.Numbers.{length_bytes, bytes_at}
-use Rattle.octets.proofs.Writing.{Laying, laying_none, laying_more, laying_all}
+use Rattle.octets.proofs.Writing.{laying_none, laying_more, laying_all}
 use Rattle.octets.proofs.put_number.Goals as goal
 
 pub smaller-n-requires : goal.smaller-n-requires

@@ -1,9 +1,6 @@
 -- `octets::same` meets its contract: whether the texts are one is whether what is left of them is. Assumes nothing.
-use mathlib.Core.Path.{◌≡◌, refl, sym, ◌∙◌}
-use Prim.Native.Nat.{◌≤◌, ◌-◌}
+use mathlib.Core.Path.{refl, sym, ◌∙◌}
 use native.Mathlib.Omega.{arith}
-use lib.ListN.{length, drop}
-use Rattle.octets.specs.Text.{same}
 use Rattle.octets.proofs.Comparing.{same_length, same_step, same_stop, same_end}
 use Rattle.octets.proofs.same.Goals as goal
 

@@ -1,9 +1,7 @@
 -- `octets::starts` meets its contract: what is asked of w is what is asked of its rest. Assumes nothing.
-use mathlib.Core.Path.{◌≡◌, refl, sym, ◌∙◌}
-use Prim.Native.Nat.{◌≤◌, ◌-◌}
+use mathlib.Core.Path.{refl, sym, ◌∙◌}
 use native.Mathlib.Omega.{arith}
-use lib.ListN.{length, drop}
-use Rattle.octets.specs.Text.{starts}
+use lib.ListN.{drop}
 use Rattle.octets.proofs.Comparing.{starts_step, starts_stop, starts_short, starts_end}
 use Rattle.octets.proofs.starts.Goals as goal
 

@@ -1,10 +1,8 @@
 -- `octets::starts` meets its contract: what is asked of w is what is asked of its rest. Assumes nothing.
-use mathlib.Core.Path.{◌≡◌, refl, sym, ◌∙◌}
+use mathlib.Core.Path.{◌≡◌}
 use Prim.Native.Nat.{◌≤◌, ◌-◌}
-use native.Mathlib.Omega.{arith}
 use lib.ListN.{length, drop}
 use Rattle.octets.specs.Text.{starts}
-use Rattle.octets.proofs.Comparing.{starts_step, starts_stop, starts_short, starts_end}
 use Rattle.octets.proofs.starts.Given as goal
 
 abbrev pub invariant-loop-i : goal.invariant-loop-i

@@ -1,10 +1,8 @@
 -- `octets::until` meets its contract: the place is the same from each place that was passed. Assumes nothing.
-use mathlib.Core.Path.{◌≡◌, refl, sym, ◌∙◌}
+use mathlib.Core.Path.{◌≡◌}
 use Prim.Native.Nat.{◌+◌, ◌-◌}
-use native.Mathlib.Omega.{arith}
 use lib.ListN.{length, drop}
 use Rattle.octets.specs.Part.{before}
-use Rattle.octets.proofs.Parting.{before_step, before_here, before_end}
 use Rattle.octets.proofs.until.Given as goal
 
 abbrev pub invariant-loop-i : goal.invariant-loop-i

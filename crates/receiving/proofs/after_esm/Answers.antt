@@ -1,5 +1,4 @@
 -- `receiving::after_esm` meets its contract: with a CTP and without one. Assumes nothing.
-use borrow.Author.Rules.{rules}
 use Rattle.receiving.proofs.after_esm.Goals as goal
 
 pub returns-then-ctp : goal.returns-then-ctp

@@ -1,12 +1,10 @@
 -- `receiving::receive_esm` meets its contract: not waiting, or broken. Assumes nothing.
 use mathlib.Core.Path.{sym, ap, ◌∙◌}
-use borrow.Author.Tests.{not-true, not-false}
 use Rattle.partner.specs.Changes.{with_sending}
 use Rattle.outcome.specs.Report.{turned}
 use Rattle.outcome.proofs.Turns.{gives}
 use Rattle.receiving.specs.Texts.{esm_in}
 use Rattle.receiving.proofs.Turning.{esm_idle, esm_breaks}
-use borrow.Author.Rules.{rules}
 use Rattle.receiving.proofs.receive_esm.Goals as goal
 
 pub returns-then-not-is_waiting : goal.returns-then-not-is_waiting

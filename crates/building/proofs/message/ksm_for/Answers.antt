@@ -5,19 +5,16 @@ use Rattle.keying.proofs.Laws.{first_made}
 use Rattle.calls.specs.Build.{wants_nos}
 use Rattle.building.specs.Parts.{sealed_for, key_as, second_as, ksm_for}
 use Rattle.building.proofs.Wording.{seconds}
-use borrow.Author.Rules.{rules}
 use Rattle.building.proofs.message.ksm_for.Goals as goal
 
 pub returns : goal.returns
 unfolding ksm_for sealed_for
 returns c =
-    let s = c in
-    let k = s in
-    let sealed = k.sealed_for-sealed.ensures in
-    let a = k.args in
-    let first = k.key_as-first.ensures ∙ ap (key_as a.e a.q.first) (first_made _ _ sealed) in
+    let sealed = c.sealed_for-sealed.ensures in
+    let a = c.args in
+    let first = c.key_as-first.ensures ∙ ap (key_as a.e a.q.first) (first_made _ _ sealed) in
     let second =
-    s.second_as-second.ensures ∙ ap (second_as a.e a.q k.sealed_for-sealed.result.second) first
+    c.second_as-second.ensures ∙ ap (second_as a.e a.q c.sealed_for-sealed.result.second) first
     ∙ seconds a.own.now a.e a.q _ sealed in
     let v = c.vector.ensures in
     λ j. record {

@@ -2,7 +2,6 @@
 use borrow.Author.Tests.{eq-eqb, ne_eqb}
 use Rattle.calls.specs.Words.{if◌then◌else◌}
 use Rattle.calls.specs.Build.{outgoing_of}
-use borrow.Author.Rules.{rules}
 use Rattle.building.proofs.message.outgoing.Goals as goal
 
 pub returns-then-q-ne2 : goal.returns-then-q-ne2

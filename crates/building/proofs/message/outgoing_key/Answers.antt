@@ -7,14 +7,12 @@ use Rattle.partner.specs.Entry.{name_of}
 use Rattle.calls.specs.Build.{wants_idk1}
 use Rattle.building.specs.Parts.{name_written}
 use Rattle.building.proofs.Wording.{bare_written}
-use borrow.Author.Rules.{rules}
 use Rattle.building.proofs.message.outgoing_key.Goals as goal
 
 pub returns : goal.returns
 returns c =
-    let w = c in
-    let k = w.args.k in
-    let n = w.written-name.ensures ∙ ap (λ (b : Bool). name_written b k.name) w.wants_idk1.ensures in
+    let k = c.args.k in
+    let n = c.written-name.ensures ∙ ap (λ (b : Bool). name_written b k.name) c.wants_idk1.ensures in
     let e = c.name_of.ensures
     ∙ ap name_of
     (c.bare.ensures ∙ ap (λ (m : Name). bare m.bytes) n ∙ bare_written (wants_idk1 k) k.name) in

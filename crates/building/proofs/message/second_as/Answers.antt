@@ -2,7 +2,6 @@
 use borrow.Author.Tests.{eq-eqb, ne_eqb}
 use Rattle.calls.specs.Words.{if◌then◌else◌}
 use Rattle.building.specs.Parts.{second_as}
-use borrow.Author.Rules.{rules}
 use Rattle.building.proofs.message.second_as.Goals as goal
 
 pub returns-then-q-eq2 : goal.returns-then-q-eq2

@@ -2,7 +2,6 @@
 use borrow.Author.Tests.{eq-eqb, ne_eqb}
 use Rattle.calls.specs.Words.{if◌then◌else◌}
 use Rattle.building.specs.Parts.{vector_for}
-use borrow.Author.Rules.{rules}
 use Rattle.building.proofs.message.vector.Goals as goal
 
 pub returns-then-q-eq1 : goal.returns-then-q-eq1
@@ -12,8 +11,7 @@ returns-then-q-eq1 c = rw (eq-eqb _ 1 c.if-q-eq1.true)
 pub returns-then-q-eq2 : goal.returns-then-q-eq2
 unfolding vector_for if◌then◌else◌
 returns-then-q-eq2 c =
-    let t = c in
-    rw (ne_eqb _ 1 t.if-q-eq1.false, eq-eqb _ 2 t.if-q-eq2.true) (cc)
+    rw (ne_eqb _ 1 c.if-q-eq1.false, eq-eqb _ 2 c.if-q-eq2.true) (cc)
 
 pub returns : goal.returns
 unfolding vector_for if◌then◌else◌

@@ -7,19 +7,14 @@ use Rattle.partner.specs.Entry.{keys_in}
 use Rattle.messages.specs.Answers.{answer, length_of, buffer}
 use Rattle.building.proofs.Judging.{good}
 use Rattle.building.proofs.Wording.{made, ksm_wrote}
-use borrow.Author.Rules.{rules}
 use Rattle.building.proofs.message.write.Goals as goal
 
 pub returns : goal.returns
 returns c =
-    let call = c in
-    let k = call in
-    let t = k in
-    let s = t in
-    let a = s.args in
+    let a = c.args in
     let l = a.reply.now in
-    let w = ksm_wrote a.own.now a.e a.q l (good a.own.now a.e (length l) a.q s.requires) in
-    let key = t.mac_key-mac_key.ensures
-    ∙ ap mac_key (t.data_keys.ensures ∙ ap keys_in t.outgoing.ensures) in
-    let r = made a.own.now a.e a.q k.bare.ensures k.ksm_for.ensures key in
-    let m = call.write_ksm.ensures in record { value = c.length_of.ensures ∙ ap length_of (m.0 ∙ ap (λ (x : Reading). answer x l) r) ∙ w.0; reply_after = m.1 ∙ ap (λ (x : Reading). buffer x l) r ∙ w.1 }
+    let w = ksm_wrote a.own.now a.e a.q l (good a.own.now a.e (length l) a.q c.requires) in
+    let key = c.mac_key-mac_key.ensures
+    ∙ ap mac_key (c.data_keys.ensures ∙ ap keys_in c.outgoing.ensures) in
+    let r = made a.own.now a.e a.q c.bare.ensures c.ksm_for.ensures key in
+    let m = c.write_ksm.ensures in record { value = c.length_of.ensures ∙ ap length_of (m.value ∙ ap (λ (x : Reading). answer x l) r) ∙ w.0; reply_after = m.reply_after ∙ ap (λ (x : Reading). buffer x l) r ∙ w.1 }

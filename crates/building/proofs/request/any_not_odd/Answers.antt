@@ -3,8 +3,7 @@ use mathlib.Core.Path.{sym, ◌∙◌}
 use mathlib.Core.Bool.{or-false}
 use borrow.Author.Tests.{eq-eqb, ne_eqb}
 use Rattle.calls.specs.Words.{if◌then◌else◌, any}
-use Rattle.calls.specs.Build.{not_odd, used}
-use borrow.Author.Rules.{rules}
+use Rattle.calls.specs.Build.{used}
 use Rattle.building.proofs.request.any_not_odd.Goals as goal
 
 pub returns-then-q-eq1 : goal.returns-then-q-eq1
@@ -14,22 +13,19 @@ returns-then-q-eq1 c = rw (eq-eqb _ 1 c.if-q-eq1.true) (c.not_odd.ensures ∙ sy
 pub returns-then-not_odd : goal.returns-then-not_odd
 unfolding any used if◌then◌else◌
 returns-then-not_odd c =
-    let t = c in
     rw (
-      ne_eqb _ 1 t.if-q-eq1.false,
-      eq-eqb _ 2 t.if-q-eq2.true,
+      ne_eqb _ 1 c.if-q-eq1.false,
+      eq-eqb _ 2 c.if-q-eq2.true,
       sym c.not_odd-then-q-eq2.ensures ∙ c.if-not_odd.true,
     ) c.if-not_odd.true
 
 pub returns-else-not_odd : goal.returns-else-not_odd
 unfolding any used if◌then◌else◌
 returns-else-not_odd c =
-    let s = c in
-    let t = s in
     rw (
-      ne_eqb _ 1 t.if-q-eq1.false,
-      eq-eqb _ 2 t.if-q-eq2.true,
-      sym s.not_odd-then-q-eq2.ensures ∙ s.if-not_odd.false,
+      ne_eqb _ 1 c.if-q-eq1.false,
+      eq-eqb _ 2 c.if-q-eq2.true,
+      sym c.not_odd-then-q-eq2.ensures ∙ c.if-not_odd.false,
     ) (c.not_odd-else-not_odd.ensures ∙ sym (or-false _))
 
 pub returns : goal.returns

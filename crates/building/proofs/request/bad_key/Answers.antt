@@ -3,7 +3,6 @@ use mathlib.Core.Path.{sym, ap, ◌∙◌}
 use mathlib.Core.Bool.{not}
 use borrow.Author.Tests.{lt-ltb, le-ltb}
 use Rattle.calls.specs.Build.{bad_key}
-use borrow.Author.Rules.{rules}
 use Rattle.building.proofs.request.bad_key.Goals as goal
 
 pub returns-then-k-ge8 : goal.returns-then-k-ge8
@@ -13,8 +12,7 @@ returns-then-k-ge8 c = rw (le-ltb _ 8 c.if-k-ge8.true)
 pub returns-then-wants_idk1 : goal.returns-then-wants_idk1
 unfolding bad_key
 returns-then-wants_idk1 c =
-    let s = c in
-    rw (lt-ltb _ 8 s.if-k-ge8.false, sym s.wants_idk1.ensures ∙ s.if-wants_idk1.true)
+    rw (lt-ltb _ 8 c.if-k-ge8.false, sym c.wants_idk1.ensures ∙ c.if-wants_idk1.true)
     (ap not c.is_filled.ensures)
 
 pub returns-else-wants_idk1 : goal.returns-else-wants_idk1

@@ -2,7 +2,6 @@
 use borrow.Author.Tests.{eq-eqb, ne_eqb}
 use Rattle.calls.specs.Words.{if◌then◌else◌}
 use Rattle.calls.specs.Build.{used, bad_keys}
-use borrow.Author.Rules.{rules}
 use Rattle.building.proofs.request.bad_keys.Goals as goal
 
 pub returns-then-q-eq1 : goal.returns-then-q-eq1

@@ -2,7 +2,6 @@
 use mathlib.Core.Path.{sym, ◌∙◌}
 use borrow.Author.Tests.{eq-eqb, ne_eqb}
 use Rattle.calls.specs.Build.{bad_keys}
-use borrow.Author.Rules.{rules}
 use Rattle.building.proofs.request.bad_pair.Goals as goal
 
 pub returns-then-k-l : goal.returns-then-k-l
@@ -17,6 +16,5 @@ returns-then-bad_key c =
 pub returns-else-bad_key : goal.returns-else-bad_key
 unfolding bad_keys
 returns-else-bad_key c =
-    let s = c in
-    rw (ne_eqb _ _ s.if-k-l.false, sym s.bad_key.ensures ∙ s.if-bad_key.false)
+    rw (ne_eqb _ _ c.if-k-l.false, sym c.bad_key.ensures ∙ c.if-bad_key.false)
     c.bad_key-else-bad_key.ensures

@@ -2,7 +2,6 @@
 use mathlib.Core.Path.{sym, ap, ◌∙◌}
 use mathlib.Core.Bool.{not}
 use Rattle.calls.specs.Build.{not_odd}
-use borrow.Author.Rules.{rules}
 use Rattle.building.proofs.request.not_odd.Goals as goal
 
 pub returns-then-wants_p : goal.returns-then-wants_p

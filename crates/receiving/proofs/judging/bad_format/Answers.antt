@@ -3,7 +3,6 @@ use mathlib.Core.Bool.{not}
 use mathlib.Core.Path.{sym, ap, ◌∙◌}
 use native.Mathlib.Omega.{arith}
 use Rattle.receiving.proofs.Faults.{bad_iv_is_bad, no_edk, some_edk}
-use borrow.Author.Rules.{rules}
 use Rattle.receiving.proofs.judging.bad_format.Goals as goal
 
 pub returns-then-bad_iv : goal.returns-then-bad_iv

@@ -5,7 +5,6 @@ use native.Mathlib.Omega.{arith}
 use Rattle.receiving.specs.Stages.{is_value}
 use Rattle.receiving.specs.declared.judging.Value.{Value}
 use Rattle.receiving.proofs.Faults.{no_iv, some_iv}
-use borrow.Author.Rules.{rules}
 use Rattle.receiving.proofs.judging.bad_iv.Goals as goal
 
 pub returns-then-iv-eq0 : goal.returns-then-iv-eq0

@@ -6,7 +6,6 @@ use lib.Dec.{eqb}
 use Rattle.octets.specs.Part.{part}
 use Rattle.keying.specs.Mac.{mac}
 use Rattle.receiving.specs.Stages.{bad_mac}
-use borrow.Author.Rules.{rules}
 use Rattle.receiving.proofs.judging.bad_mac.Goals as goal
 
 pub returns : goal.returns

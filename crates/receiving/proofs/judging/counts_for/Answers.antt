@@ -6,7 +6,6 @@ use Prim.Native.Nat.{ℕ}
 use Rattle.messages.specs.declared.Counts.TheVariants.{Without, Both}
 use Rattle.calls.specs.Receive.{bad_count}
 use Rattle.receiving.specs.Stages.{counts_between}
-use borrow.Author.Rules.{rules}
 use Rattle.receiving.proofs.judging.counts_for.Goals as goal
 
 chosen : (x y : ℕ) (b : Bool) → b ≡ bad_count x y → cond b (Both x y) Without ≡ counts_between x y

@@ -1,5 +1,4 @@
 -- `receiving::judging::date_of` meets its contract: the copy is over twelve zeros. Assumes nothing.
-use borrow.Author.Rules.{rules}
 use Rattle.receiving.proofs.judging.date_of.Goals as goal
 
 pub returns : goal.returns

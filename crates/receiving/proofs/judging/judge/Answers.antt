@@ -11,7 +11,6 @@ use Rattle.calls.specs.Outcome.{F, M, P}
 use Rattle.calls.specs.Receive.{iv_value, bad_count, when}
 use Rattle.receiving.specs.Stages.{value_of, bad_format, bad_mac, handed_out}
 use Rattle.receiving.proofs.Faults.{faults_same, told_same}
-use borrow.Author.Rules.{rules}
 use Rattle.receiving.proofs.judging.judge.Goals as goal
 
 pub bad_mac-requires : goal.bad_mac-requires

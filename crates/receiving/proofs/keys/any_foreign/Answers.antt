@@ -5,7 +5,6 @@ use borrow.Author.Tests.{not-true, not-false}
 use Rattle.octets.specs.Part.{bare, part}
 use Rattle.receiving.specs.Stages.{foreign_name}
 use Rattle.receiving.proofs.Opening.{foreign_first, foreign_one, foreign_two}
-use borrow.Author.Rules.{rules}
 use Rattle.receiving.proofs.keys.any_foreign.Goals as goal
 
 pub returns-then-foreign : goal.returns-then-foreign

@@ -5,7 +5,6 @@ use Rattle.octets.specs.Text.{Text}
 use Rattle.partner.specs.declared.Name.{Name}
 use Rattle.partner.specs.Entry.{name_of, one_key, two_keys}
 use Rattle.receiving.proofs.Opening.{keys_of_one, keys_of_two}
-use borrow.Author.Rules.{rules}
 use Rattle.receiving.proofs.keys.brought.Goals as goal
 
 pub returns-then-not-m : goal.returns-then-not-m

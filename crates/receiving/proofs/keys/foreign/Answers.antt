@@ -1,6 +1,5 @@
 -- `receiving::keys::foreign` meets its contract: its equations meet. Assumes nothing.
 use Rattle.receiving.specs.Stages.{foreign_name}
-use borrow.Author.Rules.{rules}
 use Rattle.receiving.proofs.keys.foreign.Goals as goal
 
 pub returns : goal.returns

@@ -15,7 +15,6 @@ use Rattle.receiving.specs.Texts.{ksm_in}
 use Rattle.receiving.specs.Stages.{any_foreign}
 use Rattle.receiving.proofs.Opening.{plain, uneven_key, opened_foreign}
 use Rattle.receiving.proofs.Opening.{open_first, open_one, open_second, open_two}
-use borrow.Author.Rules.{rules}
 use Rattle.receiving.proofs.keys.open_keys.Goals as goal
 
 pub returns-then-any_foreign : goal.returns-then-any_foreign

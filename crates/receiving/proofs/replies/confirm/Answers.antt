@@ -5,7 +5,6 @@ use Rattle.keying.specs.Mac.{mac_key}
 use Rattle.messages.specs.Readings.{rsm_reading}
 use Rattle.messages.specs.Answers.{answer, length_of, buffer}
 use Rattle.receiving.proofs.Replying.{rsm_to}
-use borrow.Author.Rules.{rules}
 use Rattle.receiving.proofs.replies.confirm.Goals as goal
 
 pub returns : goal.returns

@@ -5,7 +5,6 @@ use Rattle.csm.specs.Message.{Reading}
 use Rattle.messages.specs.Readings.{esm_reading}
 use Rattle.messages.specs.Answers.{answer, length_of, buffer}
 use Rattle.receiving.proofs.Replying.{error_told, error_replied}
-use borrow.Author.Rules.{rules}
 use Rattle.receiving.proofs.replies.error.Goals as goal
 
 pub returns : goal.returns
