@@ -42,7 +42,7 @@ bench:
 	@bash bench/run
 
 fmt:
-	@rt fmt
+	@for crate in crates/*/; do (cd "$$crate" && rt fmt) || exit; done
 
 vectors:
 	@bash tests/host/vectors --write

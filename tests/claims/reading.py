@@ -13,25 +13,27 @@ import sys
 from pathlib import Path
 
 CRATES = Path("crates")
-FACES = {"host", "row"}
+FACES = {"host", "host_c", "row"}
 # modules that state theorems, or are words of such statements alone: by their name in any crate, or in one
 THEOREMS = {"Claims", "Numbers", "Examples", "Orders"}
 THEOREMS |= {f"calls/specs/{name}" for name in ("Good", "Results", "Steps", "Refusals")}
 THEOREMS |= {f"demands/specs/{name}" for name in ("Demands", "Face", "Terms", "Hosts")}
 THEOREMS |= {"octets/specs/First", "octets/specs/One", "line/specs/Line", "worked/specs/Worked"}
-THEOREMS |= {"firmware/specs/Firmware", "firmware/specs/Contracts"}
+THEOREMS |= {"firmware/specs/Firmware", "firmware/specs/Promises"}
 PARTS = ["|", "Beneath the calls", "No public contract"]
 
-MODULE = r"Rattle·(\w+)(?:·specs)?\.(specs|proofs)\.([A-Z]\w*)"
+MODULE = r"Rattle\.(\w+)\.(specs|proofs)\.([A-Z]\w*)"
 IMPORT = re.compile(r"^(?:ghost |pub )*use " + MODULE + r"(?:\.\{([^}]*)\}| as ([^\s;]+))?", re.M)
 FUNCTION = re.compile(r'^\s*(pub )?(?:pub\(\w+\) )?(?:extern "C" )?fn (\w+)', re.M)
 # a word of a contract; a field's has a dot before it
-WORD = re.compile(r"[^\s()\[\]{},⌜⌝]+")
+WORD = re.compile(r"[^\s()\[\]{},]+")
 
 
 def imports(text):
     """Each module of the repository that a text imports, with the words by which it can be cited there."""
     for crate, folder, module, names, alias in IMPORT.findall(text):
+        if not (CRATES / crate).is_dir():
+            continue  # the toolchain's
         words = [name.split(" as ")[-1].strip() for name in names.split(",") if name.strip()]
         yield f"{crate}/{folder}/{module}", words or [(alias or module) + "."]
 
@@ -40,7 +42,7 @@ def contract(text, at):
     """The clauses between a function's head, which starts at `at`, and its body."""
     clauses = []
     while True:
-        clause = re.compile(r"\b(ensures|requires)\s*\{|\{").search(text, at)
+        clause = re.compile(r"\b(ensures|requires)\*?(?:\s+\w+)?\s*\{|\{").search(text, at)
         if clause is None or clause[1] is None:
             return " ".join(clauses)
         at, depth = clause.end(), 1
@@ -51,12 +53,13 @@ def contract(text, at):
 
 
 def cited(words, clauses):
-    """Whether clauses cite one of the words: a name, an operator's parts, or what stands behind `alias.`."""
+    """Whether clauses cite one of the words: a name, with a field behind it or not, an operator's parts, or what stands behind
+    `alias.`."""
     said = set(WORD.findall(clauses))
     return any(
         any(word.startswith(name) for word in said)
         if name.endswith(".")
-        else all(part in said for part in name.split("_") if part)
+        else all(any(word.split(".")[0] == part for word in said) for part in name.split("◌") if part)
         for name in words
     )
 

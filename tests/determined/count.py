@@ -3,9 +3,9 @@ has a `requires`.
 
 A function counts that code outside its crate can call: `pub fn`, `pub extern "C" fn` and a public method, in src/lib.rt, in
 an open module, or handed on by `pub use`. A program has none: nothing can call into it.
-Its statement stands in proofs/Determined.antt of its crate, under its name with hyphens, its module before it where two have
-one name. It is one of three (FORMS), of its own contract: the second of a function that hands out a part of what it was
-lent, whose contents alone are compared.
+Its statement stands in proofs/Determined.antt of its crate, under its name, its module before it where two have one name. It
+is one of three (FORMS), of its own contract: the second of a function that hands out a part of what it was lent, whose
+contents alone are compared.
 Usage: count.py, from the top folder.
 """
 import re
@@ -15,10 +15,12 @@ from pathlib import Path
 CRATES = Path("crates")
 # each form, and whether it is that of a function that hands out a part
 FORMS = {
-    "One-outcome {0}.ended {0}.Reads.Post": False,
-    "One-seen {0}.ended (λ κs. now) {0}.Reads.Post": True,
-    "One-written {0}.ended (λ M. {0}.clauses)": False,
+    "OneOutcome contract.{0}.ended fn.{0}.Reads.Post": False,
+    "OneSeen contract.{0}.ended (λ κs. (λ x. x.now)) fn.{0}.Reads.Post": True,
+    "OneWritten contract.{0}.ended (λ M. contract.{0}.clauses)": False,
 }
+# what the two words of a form stand for in a crate's file
+MODULES = {"fn": "Rattle.{}.proofs", "contract": "Rattle.{}.specs.contracts"}
 WORD = re.compile(r"//[^\n]*|b'(?:\\[^']+|[^'\\])'|b?\"(?:\\.|[^\"\\])*\"|->|::|\w+|[^\s\w]")
 BEFORE_FN = {"extern", '"C"', "const"}
 
@@ -64,7 +66,8 @@ def contract(words):
     part, asks = words[at : at + 2] == ["->", "&"], False
     while words[at] != "{":
         asks = asks or words[at] == "requires"
-        at = behind(words, at + 1, "{", "}") if words[at] in ("ensures", "requires") else at + 1
+        # a clause may have a name before its bracket
+        at = behind(words, words.index("{", at), "{", "}") if words[at] in ("ensures", "requires") else at + 1
     return part, asks
 
 
@@ -100,7 +103,7 @@ def statements(crate):
     """What proofs/Determined.antt of a crate states, each name with its type; and what it imports, line by line."""
     file = crate / "proofs/Determined.antt"
     text = file.read_text() if file.exists() else ""
-    stated = re.findall(r"^pub (\S+) :((?:.|\n)*?)\n(?=\1 )", text, re.M)
+    stated = re.findall(r"^pub (\S+) :((?:.|\n)*?)\n(?:unfolding .*\n)?(?=\1 )", text, re.M)
     return {name: " ".join(kind.split()) for name, kind in stated}, re.findall(r"^use (.*)", text, re.M)
 
 
@@ -112,25 +115,25 @@ def imported(lines, module, name):
 def faults(crate, wanted):
     """What is wrong with a crate's statements, of the public functions that it has."""
     stated, lines = statements(crate)
-    one = f"Rattle·octets{'·specs' if crate.name == 'octets' else ''}.specs.One"
-    if wanted and f"Rattle·{crate.name}·proofs.proofs as fn" not in lines:
-        yield f"{crate.name}: fn is not its own proofs"
+    for word, module in MODULES.items():
+        own = [f"{module.format(crate.name)} as {word}"]
+        used = any(re.search(rf"\b{word}\.", kind) for kind in stated.values())
+        if used and [line for line in lines if line.endswith(f" as {word}")] != own:
+            yield f"{crate.name}: {word} is not {own[0]}"
     for path, (part, asks) in sorted(wanted.items()):
         function = f"{crate.name}::{path.replace('.', '::')}"
         if asks:
             yield f"{function}: it has a requires"
-        forms = [form.format(f"fn.{path}") for form, of_a_part in FORMS.items() if of_a_part == part]
-        names = [name.replace("_", "-") for name in (path.rpartition(".")[2], path.replace(".", "-"))]
+        forms = [form.format(path) for form, of_a_part in FORMS.items() if of_a_part == part]
+        names = [path.rpartition(".")[2], path.replace(".", "_")]
         names = [name for name in names if stated.get(name) in forms] or names
         kind = stated.pop(names[0], None)
         if kind is None:
             yield f"{function}: no statement in {crate}/proofs/Determined.antt"
         elif kind not in forms:
             yield f"{function}: its statement is\n    {kind}\n  and not\n    " + "\n  or\n    ".join(forms)
-        elif not imported(lines, one, kind.split()[0]):
+        elif not imported(lines, "Rattle.octets.specs.One", kind.split()[0]):
             yield f"{function}: {kind.split()[0]} is not that of octets/specs/One"
-        elif part and not imported(lines, "denote.Ref", "now"):
-            yield f"{function}: now is not that of denote.Ref"
     for name in sorted(stated):
         yield f"{crate.name}: {name} is stated, and no public function is named so"
 

@@ -12,7 +12,7 @@ use Rattle.calls.specs.Calls.{run}
 use Rattle.calls.specs.Calls as steps
 use Rattle.outcome.specs.Report.{replied}
 use Rattle.card.specs.Over.{outcome_over}
-use Rattle.host.specs.Contracts.{Writes, Changes, ChangesAndWrites}
+use Rattle.host.specs.Promises.{Writes, Changes, ChangesAndWrites}
 use Rattle.host.proofs.khl_receive.Met as receive
 use Rattle.host.proofs.khl_build_ksm.Met as build_ksm
 use Rattle.host.proofs.khl_build_rsi.Met as build_rsi
@@ -22,7 +22,7 @@ use Rattle.host.proofs.khl_start.Met as start
 use Rattle.host.proofs.khl_load.Met as load
 use Rattle.host.proofs.khl_remove.Met as remove
 use Rattle.demands.specs.Face.{left, over_image, leaves, start_leaves}
-use Rattle.firmware.specs.Contracts.{Contracts, Code}
+use Rattle.firmware.specs.Promises.{Contracts, Code}
 use Rattle.demands.proofs.Silence.{give_up_silent}
 
 -- part by part

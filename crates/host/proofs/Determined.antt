@@ -5,7 +5,7 @@ use Rattle.octets.specs.Text.{Text}
 use Rattle.octets.specs.One.{OneOutcome}
 use Rattle.octets.proofs.Alike.{alike, ◌also◌}
 use Rattle.calls.specs.Outcome.{Outcome}
-use Rattle.host.specs.Contracts.{Tells}
+use Rattle.host.specs.Promises.{Tells}
 use Rattle.host.proofs as fn
 
 -- what is told of one outcome is one answer and one report

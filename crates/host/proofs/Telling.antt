@@ -8,7 +8,7 @@ use Rattle.outcome.specs.declared.Report.{Report}
 use Rattle.outcome.specs.Report.{report, replied}
 use Rattle.card.specs.Over.{outcome_over, image_over}
 use Rattle.host.specs.Report.{report_bytes}
-use Rattle.host.specs.Contracts.{Tells, Writes, Changes, ChangesAndWrites}
+use Rattle.host.specs.Promises.{Tells, Writes, Changes, ChangesAndWrites}
 
 -- an answer and a report's bytes
 pub tells : (o : Outcome) {r : Report} {answer : ℕ} {bytes : Text} → r ≡ report o

@@ -1,3 +1,3 @@
 pub mod Report
 pub mod Examples
-pub mod Contracts
+pub mod Promises

@@ -1,5 +1,7 @@
-// The card's C face: every call on numbers and byte slices, its answer as the result, the rest in a report of 32 bytes.
-// host/khlongsit.h is its manual.
+// The card's face: every call on numbers and byte slices, its answer as the result, the rest in a report of 32 bytes.
+// host/khlongsit.h is its manual; `host_c` hands it to C.
+#![tactic(auto)]
+
 ghost use Rattle.std.specs.Prelude.{◌≡◌, length};
 ghost use Rattle.dea.specs.Dea as dea;
 ghost use Rattle.keying.specs.Mac as mac;
@@ -8,7 +10,7 @@ ghost use Rattle.card.specs.Over as over;
 ghost use Rattle.card.specs.Whole as whole;
 ghost use Rattle.host.specs.Report as reports;
 ghost use Rattle.request.specs.Request as requests;
-ghost use Rattle.host.specs.Contracts as contracts;
+ghost use Rattle.host.specs.Promises as contracts;
 
 use outcome::Report;
 
@@ -24,13 +26,7 @@ fn told(report: &mut [u8; 32], r: Report) -> u32
 }
 
 // Receive: 13, 6, 1, 2, 3, then by class.
-#[unsafe(no_mangle)]
-pub extern "C" fn khl_receive(
-    image: &mut [u8],
-    text: &[u8],
-    reply: &mut [u8],
-    report: &mut [u8; 32],
-) -> u32
+pub fn khl_receive(image: &mut [u8], text: &[u8], reply: &mut [u8], report: &mut [u8; 32]) -> u32
     ensures { contracts.ChangesAndWrites image.old
         (calls.receive (length reply.old) text.now)
         reply.old result image.new reply.new report.new }
@@ -39,8 +35,7 @@ pub extern "C" fn khl_receive(
 }
 
 // Build a KSM: 13, 6, 3, 7, 8, 11, 12.
-#[unsafe(no_mangle)]
-pub extern "C" fn khl_build_ksm(
+pub fn khl_build_ksm(
     image: &mut [u8],
     partner: &[u8],
     request: &[u8],
@@ -56,8 +51,7 @@ pub extern "C" fn khl_build_ksm(
 }
 
 // Build an RSI: 13, 6, 3, 12.
-#[unsafe(no_mangle)]
-pub extern "C" fn khl_build_rsi(
+pub fn khl_build_rsi(
     image: &[u8],
     partner: &[u8],
     service: &[u8],
@@ -72,13 +66,7 @@ pub extern "C" fn khl_build_rsi(
 }
 
 // Ask for an entry: 13, 6, 3.
-#[unsafe(no_mangle)]
-pub extern "C" fn khl_ask(
-    image: &[u8],
-    partner: &[u8],
-    reply: &mut [u8],
-    report: &mut [u8; 32],
-) -> u32
+pub fn khl_ask(image: &[u8], partner: &[u8], reply: &mut [u8], report: &mut [u8; 32]) -> u32
     ensures { contracts.Writes
         (whole.ask_over image.now (length reply.old) partner.now)
         reply.old result reply.new report.new }
@@ -87,8 +75,7 @@ pub extern "C" fn khl_ask(
 }
 
 // Give up: 13, 3, 5.
-#[unsafe(no_mangle)]
-pub extern "C" fn khl_give_up(image: &mut [u8], partner: &[u8], report: &mut [u8; 32]) -> u32
+pub fn khl_give_up(image: &mut [u8], partner: &[u8], report: &mut [u8; 32]) -> u32
     ensures { contracts.Changes image.old (calls.about partner.now calls.give_up)
         result image.new report.new }
 {
@@ -96,8 +83,7 @@ pub extern "C" fn khl_give_up(image: &mut [u8], partner: &[u8], report: &mut [u8
 }
 
 // Start: 6, 10.
-#[unsafe(no_mangle)]
-pub extern "C" fn khl_start(own: &[u8], out: &mut [u8], report: &mut [u8; 32]) -> u32
+pub fn khl_start(own: &[u8], out: &mut [u8], report: &mut [u8; 32]) -> u32
     ensures { contracts.Writes
         (whole.start_over own.now (length out.old))
         out.old result out.new report.new }
@@ -106,8 +92,7 @@ pub extern "C" fn khl_start(own: &[u8], out: &mut [u8], report: &mut [u8; 32]) -
 }
 
 // Load: 13, 6, 10, 12, 11, 9.
-#[unsafe(no_mangle)]
-pub extern "C" fn khl_load(
+pub fn khl_load(
     image: &[u8],
     partner: &[u8],
     name: &[u8],
@@ -124,13 +109,7 @@ pub extern "C" fn khl_load(
 }
 
 // Remove: 13, 6, 3.
-#[unsafe(no_mangle)]
-pub extern "C" fn khl_remove(
-    image: &[u8],
-    partner: &[u8],
-    out: &mut [u8],
-    report: &mut [u8; 32],
-) -> u32
+pub fn khl_remove(image: &[u8], partner: &[u8], out: &mut [u8], report: &mut [u8; 32]) -> u32
     ensures { contracts.Writes
         (whole.remove_over image.now (length out.old) partner.now)
         out.old result out.new report.new }
@@ -139,24 +118,21 @@ pub extern "C" fn khl_remove(
 }
 
 // For tests: a block enciphered under a key.
-#[unsafe(no_mangle)]
-pub extern "C" fn khl_test_encipher(key: u64, block: u64) -> u64
+pub fn khl_test_encipher(key: u64, block: u64) -> u64
     ensures { result ≡ dea.encipher key block }
 {
     cipher::encipher(key, block)
 }
 
 // For tests: a block deciphered under a key.
-#[unsafe(no_mangle)]
-pub extern "C" fn khl_test_decipher(key: u64, block: u64) -> u64
+pub fn khl_test_decipher(key: u64, block: u64) -> u64
     ensures { result ≡ dea.decipher key block }
 {
     cipher::decipher(key, block)
 }
 
 // For tests: the MAC of a text under a key.
-#[unsafe(no_mangle)]
-pub extern "C" fn khl_test_mac(key: u64, text: &[u8]) -> u32
+pub fn khl_test_mac(key: u64, text: &[u8]) -> u32
     ensures { result ≡ mac.mac key text.now }
 {
     sealing::mac(key, text)

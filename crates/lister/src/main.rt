@@ -1,10 +1,16 @@
 // The line lister: of each line on standard input its number, its class or `-`, and its length in bytes.
+#![tactic(auto)]
+
 ghost use Rattle.std.specs.Prelude.{◌≡◌};
 ghost use Rattle.csm.specs.Message.{read};
 ghost use Rattle.lister.specs.Listing.{option_number, listed_class, row_of};
 
 use fields::Class;
 use reader::Message;
+use std::env::FillError;
+use std::io;
+use std::io::Read;
+use std::rt::Env;
 
 // What is listed of a line: its class from 1 on, or 0; its length, or 513 where it is longer than 512.
 #[derive(Clone, Copy)]
@@ -70,99 +76,94 @@ fn row_of(line: &[u8]) -> Row
 }
 
 // The name of a class.
-fn write_class(class: usize) {
+fn class_name(class: usize) -> &'static str {
     match class {
-        1 => io::write_all(1, b"RSI"),
-        2 => io::write_all(1, b"KSM"),
-        3 => io::write_all(1, b"RSM"),
-        4 => io::write_all(1, b"ESM"),
-        5 => io::write_all(1, b"DSM"),
-        6 => io::write_all(1, b"ERS"),
-        7 => io::write_all(1, b"RFS"),
-        8 => io::write_all(1, b"RTR"),
-        _ => io::write_all(1, b"-"),
-    };
+        1 => "RSI",
+        2 => "KSM",
+        3 => "RSM",
+        4 => "ESM",
+        5 => "DSM",
+        6 => "ERS",
+        7 => "RFS",
+        8 => "RTR",
+        _ => "-",
+    }
 }
 
 // A line's row.
-fn write_row(number: u64, row: Row) {
-    io::print_decimal(1, number);
-    io::write_all(1, b" ");
-    write_class(row.class);
-    if row.bytes < 513 {
-        io::write_all(1, b" ");
-        io::print_decimal(1, row.bytes as u64);
+fn write_row(rt: &impl Print, number: u64, row: Row) -> io::Result<()> {
+    let class = class_name(row.class);
+    let bytes = row.bytes;
+    if bytes < 513 {
+        println!(rt; "{number} {class} {bytes}")
     } else {
-        io::write_all(1, b" >512");
+        println!(rt; "{number} {class} >512")
     }
-    io::write_all(1, b"\n");
 }
 
 // The line that ends here is listed.
-fn end_line(state: State, line: &[u8]) -> State {
+fn end_line(rt: &impl Print, state: State, line: &[u8]) -> io::Result<State> {
     let row = row_of(line);
-    let number = std::num::wrapping_add_u64(state.lines, 1);
-    write_row(number, row);
+    let number = state.lines.wrapping_add(1);
+    write_row(rt, number, row)?;
     let mut readable = state.readable;
     if 0 < row.class {
-        readable = std::num::wrapping_add_u64(readable, 1);
+        readable = readable.wrapping_add(1);
     }
-    State {
+    Ok(State {
         held: 0,
         lines: number,
         readable,
-    }
+    })
 }
 
 // One byte more: it ends the line, or is held; what a line has after 513 bytes is passed over.
-fn step(state: State, b: u8, line: &mut [u8]) -> State {
+fn step(rt: &impl Print, state: State, b: u8, line: &mut [u8]) -> io::Result<State> {
     let held = state.held;
     if b == b'\n' {
         if held <= line.len() {
-            return end_line(state, &line[0..held]);
+            return end_line(rt, state, &line[0..held]);
         }
-        return state;
+        return Ok(state);
     }
     if held < line.len() {
         line[held] = b;
-        return State {
+        return Ok(State {
             held: held + 1,
             lines: state.lines,
             readable: state.readable,
-        };
+        });
     }
-    state
+    Ok(state)
 }
 
 // The bytes of a chunk, one after the other.
-fn take_in(state: State, chunk: &[u8], line: &mut [u8]) -> State {
+fn take_in(rt: &impl Print, state: State, chunk: &[u8], line: &mut [u8]) -> io::Result<State> {
     let mut passed = state;
     let mut i = 0;
     while i < chunk.len() {
-        passed = step(passed, chunk[i], line);
+        passed = step(rt, passed, chunk[i], line)?;
         i += 1;
     }
-    passed
+    Ok(passed)
 }
 
 // What stands last: a line without its end, then the lines and the readable ones.
-fn finish(state: State, line: &[u8]) {
+fn finish(rt: &impl Print, state: State, line: &[u8]) -> io::Result<()> {
     let held = state.held;
     let mut last = state;
     if 0 < held {
         if held <= line.len() {
-            last = end_line(state, &line[0..held]);
+            last = end_line(rt, state, &line[0..held])?;
         }
     }
-    io::write_all(1, b"total ");
-    io::print_decimal(1, last.lines);
-    io::write_all(1, b" read ");
-    io::print_decimal(1, last.readable);
-    io::write_all(1, b"\n");
+    let lines = last.lines;
+    let readable = last.readable;
+    println!(rt; "total {lines} read {readable}")
 }
 
-// Lists the lines of standard input.
-fn list() {
+// Lists the lines of the input.
+fn list(rt: &(impl Print + Eprint), input: &mut impl Read) -> io::Result<()> {
     let mut line = [0u8; 513];
     let mut chunk = [0u8; 4096];
     let mut state = State {
@@ -170,51 +171,39 @@ fn list() {
         lines: 0,
         readable: 0,
     };
-    io::write_all(1, b"line class bytes\n");
+    rt.write_all(b"line class bytes\n")?;
     let mut reads: u64 = 18446744073709551615;
     while 0 < reads {
-        let got = libc::read(0, &mut chunk);
-        if got < 0 {
-            io::write_all(2, b"lister: standard input cannot be read\n");
-            return;
+        match input.read(&mut chunk) {
+            Ok(0) => return finish(rt, state, &line),
+            Ok(n) => state = take_in(rt, state, &chunk[..n], &mut line)?,
+            Err(_) => return eprintln!(rt; "lister: standard input cannot be read"),
         }
-        let n = io::count(got, &chunk);
-        if n == 0 {
-            finish(state, &line);
-            return;
-        }
-        state = take_in(state, &chunk[..n], &mut line);
         reads -= 1;
     }
+    Ok(())
 }
 
 // What the lister is for, or that it takes no such word.
-fn explain(word: &[u8]) {
+fn explain(rt: &(impl Print + Eprint), word: &[u8]) -> io::Result<()> {
     if octets::same(word, b"--help") {
-        io::write_all(1, b"usage: lister < FILE\n\n");
-        io::write_all(
-            1,
+        rt.write_all(b"usage: lister < FILE\n\n")?;
+        rt.write_all(
             b"Reads messages on standard input, one to a line, and prints for each its number, its class\n",
-        );
-        io::write_all(
-            1,
+        )?;
+        rt.write_all(
             b"(or - where it is no message) and its length in bytes (>512 above 512); last the number of\n",
-        );
-        io::write_all(1, b"lines and of those that are messages.\n");
-        return;
+        )?;
+        return rt.write_all(b"lines and of those that are messages.\n");
     }
-    io::write_all(
-        2,
-        b"lister: it takes no word but --help; the lines come on standard input\n",
-    );
+    eprintln!(rt; "lister: it takes no word but --help; the lines come on standard input")
 }
 
-fn main() {
-    if os::arg_count() < 2 {
-        list();
-        return;
-    }
+fn main(rt: HostRuntime) -> io::Result<()> {
     let mut word = [0u8; 8];
-    let n = os::arg(1, &mut word);
-    explain(&word[..n]);
+    match rt.arg(1, &mut word) {
+        Ok(n) => explain(&rt, &word[..n]),
+        Err(FillError::TooLong) => explain(&rt, b""),
+        Err(FillError::NotPresent) => list(&rt, &mut rt.stdin()),
+    }
 }

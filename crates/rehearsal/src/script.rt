@@ -2,6 +2,7 @@
 use crate::{keys, print};
 use outcome::Report;
 use sight::aims::Act;
+use std::io;
 
 // The moves.
 pub const START: u8 = 0;
@@ -117,11 +118,11 @@ fn act(number: usize) -> u8 {
 }
 
 // The move, announced.
-pub(crate) fn announced(scene: Scene) -> u8 {
+pub(crate) fn announced(rt: &impl Print, scene: Scene) -> io::Result<u8> {
     let act = act(scene.number);
     let own = own(scene);
-    print::heading(&own, act);
-    act
+    print::heading(rt, &own, act)?;
+    Ok(act)
 }
 
 // What a call asks, by the move.
@@ -180,14 +181,19 @@ pub(crate) fn part<'a>(text: &'a [u8], scene: Scene) -> &'a [u8] {
 }
 
 // What a call gave is told, and its reply lies ready for the partner.
-pub(crate) fn after(scene: Scene, reply: &[u8], report: Report) -> Scene {
+pub(crate) fn after(
+    rt: &impl Print,
+    scene: Scene,
+    reply: &[u8],
+    report: Report,
+) -> io::Result<Scene> {
     let end = report.length;
     let mut next = scene;
-    next.number = std::num::wrapping_add_usize(scene.number, 1);
-    print::told(report);
+    next.number = scene.number.wrapping_add(1);
+    print::told(rt, report)?;
     if 0 < end {
         if end <= reply.len() {
-            print::text(act(scene.number), &reply[0..end]);
+            print::text(rt, act(scene.number), &reply[0..end])?;
             let put = letter_of(&reply[0..end]);
             if is_bravo(scene) {
                 next.bravo = put;
@@ -196,5 +202,5 @@ pub(crate) fn after(scene: Scene, reply: &[u8], report: Report) -> Scene {
             }
         }
     }
-    next
+    Ok(next)
 }

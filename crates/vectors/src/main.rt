@@ -1,7 +1,11 @@
 // Known answers: reads lines of an operation and four numbers, and writes each with its answer.
-ghost use Rattle.std.specs.Prelude.{◌<◌};
+#![tactic(auto)]
+
+ghost use Rattle.std.specs.Prelude.{◌<◌, ◌≤◌, length};
 
 use keying::{Blocks, Top};
+use std::io;
+use std::io::Read;
 
 mod whole;
 
@@ -91,10 +95,32 @@ fn answer(operation: u8, org: &[u8], rcv: &[u8], numbers: Numbers) -> u64 {
     }
 }
 
+// As many bytes as there are room for or as are left on the input, at the front of the room: how many. A read that fails
+// ends the input.
+fn read_full<R: Read>(input: &mut R, room: &mut [u8]) -> usize
+    ensures { result ≤ length room.new }
+{
+    let mut held = 0;
+    while held < room.len() {
+        match input.read(&mut room[held..]) {
+            Ok(0) => return held,
+            Ok(n) => held += n,
+            Err(_) => return held,
+        }
+    }
+    held
+}
+
 // A line of four numbers, what else it is about if anything, and its answer for an originator and a receiver.
-fn tell_answer(line: &[u8], about: &[u8], org: &[u8], rcv: &[u8]) {
+fn tell_answer(
+    rt: &impl Print,
+    line: &[u8],
+    about: &[u8],
+    org: &[u8],
+    rcv: &[u8],
+) -> io::Result<()> {
     if line.len() < 69 {
-        return;
+        return Ok(());
     }
     let numbers = Numbers {
         left: hex(&line[2..18]),
@@ -103,96 +129,110 @@ fn tell_answer(line: &[u8], about: &[u8], org: &[u8], rcv: &[u8]) {
         block: hex(&line[53..69]),
     };
     let n = answer(line[0], org, rcv, numbers);
-    io::write_all(1, &line[0..69]);
+    rt.write_all(&line[0..69])?;
     if 0 < about.len() {
-        io::write_all(1, b" ");
-        io::write_all(1, about);
+        rt.write_all(b" ")?;
+        rt.write_all(about)?;
     }
-    io::write_all(1, b" ");
-    io::print_hex(1, n, 16);
-    io::write_all(1, b"\n");
+    println!(rt; " {n:016x}")
 }
 
 // The same for the originator and the receiver on the line that follows, each filled with blanks to 16 characters, and a
 // blank between them.
-fn tell_notarized(line: &[u8], text: &mut [u8]) {
+fn tell_notarized(
+    rt: &impl Print,
+    input: &mut impl Read,
+    line: &[u8],
+    text: &mut [u8],
+) -> io::Result<()> {
     if text.len() < 34 {
-        return;
+        return Ok(());
     }
-    io::read_full(0, &mut text[0..34]);
+    read_full(input, &mut text[0..34]);
     tell_answer(
+        rt,
         line,
         &text[0..33],
         octets::bare(&text[0..16]),
         octets::bare(&text[17..33]),
-    );
+    )
 }
 
 // The MAC under the left key of the text that follows a line, as many bytes as its count says and a line end.
-fn tell_mac(line: &[u8], text: &mut [u8]) {
+fn tell_mac(
+    rt: &impl Print,
+    input: &mut impl Read,
+    line: &[u8],
+    text: &mut [u8],
+) -> io::Result<()> {
     if line.len() < 69 {
-        return;
+        return Ok(());
     }
     let n = (hex(&line[36..52]) % 512) as usize;
     if text.len() <= n {
-        return;
+        return Ok(());
     }
-    io::read_full(0, &mut text[0..n]);
+    read_full(input, &mut text[0..n]);
     let mac = sealing::mac(hex(&line[2..18]), &text[0..n]);
-    io::write_all(1, &text[0..n]);
-    io::write_all(1, b" ");
-    io::print_hex(1, mac as u64, 8);
-    io::write_all(1, b"\n");
+    rt.write_all(&text[0..n])?;
+    println!(rt; " {mac:08x}")?;
     let e = n + 1;
-    io::read_full(0, &mut text[n..e]);
+    read_full(input, &mut text[n..e]);
+    Ok(())
 }
 
 // The message that follows a line, read and written anew from its parts, its MAC under the left key.
-fn tell_message(line: &[u8], text: &mut [u8]) {
+fn tell_message(
+    rt: &impl Print,
+    input: &mut impl Read,
+    line: &[u8],
+    text: &mut [u8],
+) -> io::Result<()> {
     if line.len() < 69 {
-        return;
+        return Ok(());
     }
     let n = (hex(&line[36..52]) % 512) as usize;
     if text.len() <= n {
-        return;
+        return Ok(());
     }
     let e = n + 1;
-    io::read_full(0, &mut text[0..e]);
+    read_full(input, &mut text[0..e]);
     let mut reply = [0u8; 256];
     let written = whole::anew(&mut reply, &text[0..n], hex(&line[2..18]));
     if written <= reply.len() {
-        io::write_all(1, &reply[0..written]);
+        rt.write_all(&reply[0..written])?;
     }
-    io::write_all(1, b"\n");
+    rt.write_all(b"\n")
 }
 
 // A line with its answer.
-fn tell(line: &[u8], text: &mut [u8]) {
-    if 0 < line.len() {
-        let operation = line[0];
-        match operation {
-            b'M' => tell_mac(line, text),
-            b'W' => tell_message(line, text),
-            b'N' => tell_notarized(line, text),
-            b'O' => tell_notarized(line, text),
-            b'P' => tell_notarized(line, text),
-            b'Q' => tell_notarized(line, text),
-            _ => tell_answer(line, b"", b"", b""),
-        }
+fn tell(rt: &impl Print, input: &mut impl Read, line: &[u8], text: &mut [u8]) -> io::Result<()> {
+    if line.len() == 0 {
+        return Ok(());
+    }
+    let operation = line[0];
+    match operation {
+        b'M' => tell_mac(rt, input, line, text),
+        b'W' => tell_message(rt, input, line, text),
+        b'N' => tell_notarized(rt, input, line, text),
+        b'O' => tell_notarized(rt, input, line, text),
+        b'P' => tell_notarized(rt, input, line, text),
+        b'Q' => tell_notarized(rt, input, line, text),
+        _ => tell_answer(rt, line, b"", b"", b""),
     }
 }
 
-fn main() {
+fn main(rt: HostRuntime) -> io::Result<()> {
+    let mut input = rt.stdin();
     let mut line = [0u8; 70];
     let mut text = [0u8; 512];
     let mut lines: u64 = 0;
     while lines < 100000 {
-        if io::read_full(0, &mut line) < 70 {
-            io::print_decimal(1, lines);
-            io::write_all(1, b" lines\n");
-            return;
+        if read_full(&mut input, &mut line) < 70 {
+            return println!(rt; "{lines} lines");
         }
-        tell(&line, &mut text);
+        tell(&rt, &mut input, &line, &mut text)?;
         lines += 1;
     }
+    Ok(())
 }
