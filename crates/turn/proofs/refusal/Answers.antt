@@ -3,7 +3,7 @@ use mathlib.Core.Path.{refl, ap, ◌∙◌}
 use mathlib.Core.Bool.{Bool}
 use Prim.Native.Nat.{ℕ}
 use lib.Dec.{ltb}
-use borrow.Author.Rules.{rules}
+use borrow.Enum.Refused.{opened}
 use Rattle.octets.specs.Text.{is_name}
 use Rattle.octets.specs.First.{then, go}
 use Rattle.turn.specs.Way.{loading}
@@ -30,5 +30,5 @@ returns-in_default c =
     ∙ ap (λ (n : ℕ). then n (ltb a.room a.aim.room) 6) c.then-a.ensures in
     let n : ℕ = c.then-b.result in
     c.looking_up.ensures
-    ∙ no_load a.act c.in_default.keys2 a.aim s a.text.now n
+    ∙ no_load a.act (opened c.in_default.in_default-own.keys2) a.aim s a.text.now n
     ∙ orders_as a.aim s a.act a.text.now a.room n p refl

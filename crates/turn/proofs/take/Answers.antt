@@ -11,7 +11,8 @@ returns-then-answer-ne0 c =
     let a = c.args in
     let l = a.reply.now in
     let p = way_refused a.own.now a.aim a.seen a.act a.text.now (length l) _ c.refusal-answer.ensures c.if-answer-ne0.true in
-    gives_as l p (gives_refusal a.seen.entry _ l c.refused.ensures)
+    let d = gives_as l p (gives_refusal a.seen.entry _ l c.refused.ensures) in
+    record { value = d.0; reply_after = d.1 }
 
 pub returns : goal.returns
 unfolding refusal
@@ -19,4 +20,5 @@ returns c =
     let a = c.args in
     let l = a.reply.now in
     let p = way_turned a.own.now a.aim a.seen a.act a.text.now (length l) _ c.refusal-answer.ensures c.if-answer-ne0.false in
-    gives_as l p c.turn.ensures
+    let d = gives_as l p (c.turn.ensures.value, c.turn.ensures.reply_after) in
+    record { value = d.0; reply_after = d.1 }

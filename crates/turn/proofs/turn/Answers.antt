@@ -16,7 +16,8 @@ returns-in-Receive c =
     let l = a.reply.now in
     let h = c.in-Receive.is in
     let p = turns_as a.act a.own.now a.partner a.e a.text.now (length l) h in
-    gives_as l p c.receive.ensures
+    let d = gives_as l p (c.receive.ensures.value, c.receive.ensures.reply_after) in
+    record { value = d.0; reply_after = d.1 }
 
 pub returns-in-BuildKsm : goal.returns-in-BuildKsm
 unfolding turn
@@ -26,7 +27,8 @@ returns-in-BuildKsm c =
     let h = c.in-BuildKsm.is in
     let p = turns_as a.act a.own.now a.partner a.e a.text.now (length l) h
     ∙ ap (build_ksm a.own.now a.e (length l)) (sym c.request_in.ensures) in
-    gives_as l p c.build_ksm.ensures
+    let d = gives_as l p (c.build_ksm.ensures.value, c.build_ksm.ensures.reply_after) in
+    record { value = d.0; reply_after = d.1 }
 
 pub returns-in-BuildRsi : goal.returns-in-BuildRsi
 unfolding turn
@@ -35,7 +37,8 @@ returns-in-BuildRsi c =
     let l = a.reply.now in
     let h = c.in-BuildRsi.is in
     let p = turns_as a.act a.own.now a.partner a.e a.text.now (length l) h in
-    gives_as l p c.build_rsi.ensures
+    let d = gives_as l p (c.build_rsi.ensures.value, c.build_rsi.ensures.reply_after) in
+    record { value = d.0; reply_after = d.1 }
 
 pub returns-in-GiveUp : goal.returns-in-GiveUp
 unfolding turn
@@ -43,7 +46,8 @@ returns-in-GiveUp c =
     let a = c.args in
     let l = a.reply.now in
     let p = turns_as a.act a.own.now a.partner a.e a.text.now (length l) c.in-GiveUp.is in
-    gives_as l p (gives_up a.e l c.give_up.ensures)
+    let d = gives_as l p (gives_up a.e l c.give_up.ensures) in
+    record { value = d.0; reply_after = d.1 }
 
 pub returns-in-Remove : goal.returns-in-Remove
 unfolding turn
@@ -51,7 +55,8 @@ returns-in-Remove c =
     let a = c.args in
     let l = a.reply.now in
     let p = turns_as a.act a.own.now a.partner a.e a.text.now (length l) c.in-Remove.is in
-    gives_as l p (gives_plain _ l c.plain.ensures c.empty.ensures)
+    let d = gives_as l p (gives_plain _ l c.plain.ensures c.empty.ensures) in
+    record { value = d.0; reply_after = d.1 }
 
 pub returns-in-Ask : goal.returns-in-Ask
 unfolding turn
@@ -59,7 +64,8 @@ returns-in-Ask c =
     let a = c.args in
     let l = a.reply.now in
     let p = turns_as a.act a.own.now a.partner a.e a.text.now (length l) c.in-Ask.is in
-    gives_as l p (gives_plain a.e l c.plain-in-Ask.ensures refl)
+    let d = gives_as l p (gives_plain a.e l c.plain-in-Ask.ensures refl) in
+    record { value = d.0; reply_after = d.1 }
 
 pub returns-in-Load : goal.returns-in-Load
 unfolding turn
@@ -67,4 +73,5 @@ returns-in-Load c =
     let a = c.args in
     let l = a.reply.now in
     let p = turns_as a.act a.own.now a.partner a.e a.text.now (length l) c.in-Load.is in
-    gives_as l p (gives_plain _ l c.plain-in-Load.ensures (c.loaded.ensures ∙ ap (λ (n : Name). loaded a.partner n c.act.given.0.0) c.name_of.ensures))
+    let d = gives_as l p (gives_plain _ l c.plain-in-Load.ensures (c.loaded.ensures ∙ ap (λ (n : Name). loaded a.partner n c.in-Load.top) c.name_of.ensures)) in
+    record { value = d.0; reply_after = d.1 }
