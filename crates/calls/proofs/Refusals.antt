@@ -22,7 +22,7 @@ use Rattle.partner.specs.Entry.{filled, name_of, top_of, empty}
 use Rattle.partner.specs.Changes.{loaded}
 use Rattle.partner.proofs.Claims.{claims}
 use Rattle.partner.proofs.Ruling.{not_0}
-use Rattle.partner.specs.Table.{Table, legal, is_empty, identities, differs, find, put, into_free_slot, behind, holding, empties}
+use Rattle.partner.specs.Table.{Table, legal, is_empty, identities, differs, find, put, into_free_slot, holding, empties}
 use Rattle.calls.specs.Words.{if◌then◌else◌}
 use Rattle.calls.specs.Outcome.{success, nothing, refusal}
 use Rattle.calls.specs.Calls.{Call, receive, about, build_ksm, build_rsi, give_up, load, remove, ask, refuse, start}

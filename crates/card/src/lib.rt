@@ -1,6 +1,8 @@
 // Every call of the card over the stored image, each a line or two over one way: aim, look-up, turn, put-back. Receive, build
 // a KSM and give up change the image in place, build an RSI and ask only read it; start, load and remove write a whole new
 // image to a lent buffer.
+#![tactic(auto)]
+
 ghost use Rattle.std.specs.Prelude.{◌≡◌, length};
 ghost use Rattle.calls.specs.Calls as calls;
 ghost use Rattle.sight.specs.Aim as Aims-of;

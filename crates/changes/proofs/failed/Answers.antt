@@ -1,5 +1,4 @@
 -- Field by field, the count the larger.
-use borrow.Author.Rules.{rules}
 use Rattle.partner.specs.Changes.{failed}
 use Rattle.changes.proofs.failed.Goals as goal
 

@@ -1,5 +1,4 @@
 -- Field by field.
-use borrow.Author.Rules.{rules}
 use Rattle.partner.specs.Changes.{given_up}
 use Rattle.changes.proofs.given_up.Goals as goal
 

@@ -1,5 +1,4 @@
 -- Field by field, the count risen.
-use borrow.Author.Rules.{rules}
 use Rattle.partner.specs.Changes.{issued}
 use Rattle.changes.proofs.issued.Goals as goal
 

@@ -1,6 +1,5 @@
 -- By the test of the limit.
 use borrow.Author.Tests.{lt-ltb, le-ltb}
-use borrow.Author.Rules.{rules}
 use Rattle.partner.specs.Entry.{risen}
 use Rattle.changes.proofs.risen.Goals as goal
 

@@ -1,5 +1,4 @@
 -- Part by part.
-use borrow.Author.Rules.{rules}
 use Rattle.partner.specs.Record.{entry_in}
 use Rattle.record.proofs.entry_in.Goals as goal
 

@@ -3,7 +3,6 @@ use mathlib.Core.Path.{refl, ◌∙◌}
 use Prim.Native.Nat.{◌+◌, ◌-◌}
 use native.Mathlib.Omega.{arith}
 use lib.ListN.{length, length-drop}
-use borrow.Author.Rules.{rules}
 use Rattle.octets.proofs.Parts.{part_none, part_copied, part_laid}
 use Rattle.partner.proofs.Naming.{name_as}
 use Rattle.record.proofs.name_in.Goals as goal

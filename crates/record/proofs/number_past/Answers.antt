@@ -4,7 +4,6 @@ use Prim.Native.Nat.{◌^◌, ◌%◌}
 use native.Mathlib.Omega.{arith}
 use lib.ListN.{length, take}
 use lib.Seq.{length-take-le}
-use borrow.Author.Rules.{rules}
 use Rattle.octets.proofs.Comparing.{octets_lent}
 use Rattle.octets.specs.Text.{Text}
 use Rattle.octets.specs.Number.{number}

@@ -1,6 +1,5 @@
 -- Names, then form and top key.
 use mathlib.Core.List.{append_assoc}
-use borrow.Author.Rules.{rules}
 use Rattle.octets.specs.Codec.{numeral, ◌followed_by◌, written}
 use Rattle.octets.proofs.Writing.{wrote_rest, wrote_as}
 use Rattle.record.proofs.put_front.Goals as goal

@@ -1,5 +1,4 @@
 -- Name after name.
-use borrow.Author.Rules.{rules}
 use Rattle.octets.proofs.Writing.{wrote_rest}
 use Rattle.record.proofs.put_names.Goals as goal
 

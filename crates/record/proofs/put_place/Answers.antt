@@ -1,5 +1,4 @@
 -- Key, then name.
-use borrow.Author.Rules.{rules}
 use Rattle.octets.proofs.Writing.{wrote_rest}
 use Rattle.record.proofs.put_place.Goals as goal
 

@@ -1,6 +1,5 @@
 -- Number, then place after place.
 use mathlib.Core.List.{append_assoc}
-use borrow.Author.Rules.{rules}
 use Rattle.octets.specs.Number.{bytes}
 use Rattle.octets.specs.Codec.{written}
 use Rattle.octets.proofs.Writing.{wrote_rest, wrote_as}

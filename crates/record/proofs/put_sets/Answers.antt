@@ -1,5 +1,4 @@
 -- Set after set.
-use borrow.Author.Rules.{rules}
 use Rattle.octets.proofs.Writing.{wrote_rest}
 use Rattle.record.proofs.put_sets.Goals as goal
 

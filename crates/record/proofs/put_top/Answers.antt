@@ -1,6 +1,5 @@
 -- Number after number.
 use mathlib.Core.List.{append_assoc}
-use borrow.Author.Rules.{rules}
 use Rattle.octets.specs.Number.{bytes}
 use Rattle.octets.proofs.Writing.{wrote_rest, wrote_as}
 use Rattle.record.proofs.put_top.Goals as goal

@@ -1,7 +1,6 @@
 -- Part after part.
 use mathlib.Core.Path.{◌∙◌}
 use mathlib.Core.List.{◌++◌, append_assoc}
-use borrow.Author.Rules.{rules}
 use Rattle.octets.specs.Codec.{◌followed_by◌, written}
 use Rattle.octets.proofs.Writing.{wrote_rest, wrote_as}
 use Rattle.partner.specs.Record.{top_layout, counts_layout, set_layout, entry_bytes}

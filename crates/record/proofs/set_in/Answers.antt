@@ -1,5 +1,4 @@
 -- Part by part.
-use borrow.Author.Rules.{rules}
 use Rattle.record.proofs.set_in.Goals as goal
 
 pub returns : goal.returns

@@ -1,5 +1,4 @@
 -- Count by count.
-use borrow.Author.Rules.{rules}
 use Rattle.partner.specs.Legal.{counts_right}
 use Rattle.rules.proofs.counts_right.Goals as goal
 

@@ -1,5 +1,4 @@
 -- By the expected count.
-use borrow.Author.Rules.{rules}
 use Rattle.rules.proofs.incoming_right.Goals as goal
 
 pub returns : goal.returns

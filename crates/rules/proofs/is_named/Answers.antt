@@ -2,7 +2,6 @@
 -- as two numbers
 use mathlib.Core.Path.{◌≡◌, refl, sym, ap, ◌∙◌}
 use mathlib.Core.Bool.{Bool, ◌||◌}
-use borrow.Author.Rules.{rules}
 use Rattle.octets.specs.Text.{Text, same}
 use Rattle.octets.specs.Number.{of_numbers}
 use Rattle.partner.specs.Entry.{blanks}

@@ -1,6 +1,5 @@
 -- The key is zero, and so is the name.
 use borrow.Author.Tests.{eq-eqb, ne_eqb}
-use borrow.Author.Rules.{rules}
 use Rattle.octets.specs.Number.{of_numbers}
 use Rattle.rules.proofs.is_unused.Goals as goal
 

@@ -1,5 +1,4 @@
 -- By whether there are to be keys.
-use borrow.Author.Rules.{rules}
 use Rattle.rules.proofs.keys_if.Goals as goal
 
 pub returns-then-so : goal.returns-then-so

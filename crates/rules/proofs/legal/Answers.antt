@@ -1,5 +1,4 @@
 -- No rule is broken.
-use borrow.Author.Rules.{rules}
 use Rattle.partner.specs.Legal.{legal}
 use Rattle.rules.proofs.legal.Goals as goal
 

@@ -1,5 +1,4 @@
 -- Test by test.
-use borrow.Author.Rules.{rules}
 use Rattle.partner.specs.Legal.{names_formed}
 use Rattle.rules.proofs.names_formed.Goals as goal
 

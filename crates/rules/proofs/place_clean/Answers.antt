@@ -1,5 +1,4 @@
 -- By whether the place is used.
-use borrow.Author.Rules.{rules}
 use Rattle.partner.specs.Legal.{is_unused}
 use Rattle.rules.proofs.place_clean.Goals as goal
 

@@ -1,5 +1,4 @@
 -- By whether the place is unused.
-use borrow.Author.Rules.{rules}
 use Rattle.partner.specs.Legal.{is_named}
 use Rattle.rules.proofs.place_named.Goals as goal
 

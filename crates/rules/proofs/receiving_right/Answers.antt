@@ -1,5 +1,4 @@
 -- Rule by rule.
-use borrow.Author.Rules.{rules}
 use Rattle.partner.specs.Units.{receiving_right}
 use Rattle.rules.proofs.receiving_right.Goals as goal
 

@@ -1,5 +1,4 @@
 -- Rule by rule.
-use borrow.Author.Rules.{rules}
 use Rattle.partner.specs.Units.{sending_right}
 use Rattle.rules.proofs.sending_right.Goals as goal
 

@@ -1,5 +1,4 @@
 -- Place by place.
-use borrow.Author.Rules.{rules}
 use Rattle.partner.specs.Legal.{set_clean}
 use Rattle.rules.proofs.set_clean.Goals as goal
 

@@ -1,5 +1,4 @@
 -- Key by key.
-use borrow.Author.Rules.{rules}
 use Rattle.partner.specs.Legal.{set_named}
 use Rattle.rules.proofs.set_named.Goals as goal
 

@@ -1,5 +1,4 @@
 -- The parity of the top key.
-use borrow.Author.Rules.{rules}
 use Rattle.partner.specs.Legal.{top_odd}
 use Rattle.rules.proofs.top_odd.Goals as goal
 

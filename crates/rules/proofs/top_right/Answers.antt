@@ -1,5 +1,4 @@
 -- Rule by rule.
-use borrow.Author.Rules.{rules}
 use Rattle.partner.specs.Units.{top_right}
 use Rattle.rules.proofs.top_right.Goals as goal
 

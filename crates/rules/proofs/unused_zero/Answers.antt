@@ -1,5 +1,4 @@
 -- Test by test.
-use borrow.Author.Rules.{rules}
 use Rattle.partner.specs.Legal.{unused_zero}
 use Rattle.rules.proofs.unused_zero.Goals as goal
 

@@ -3,7 +3,6 @@ use mathlib.Core.Path.{refl, ap, ◌∙◌}
 use mathlib.Core.Bool.{◌&&◌}
 use native.Mathlib.Omega.{arith}
 use lib.ListN.{length-take}
-use borrow.Author.Rules.{rules}
 use Rattle.octets.proofs.Parts.{part_cut}
 use Rattle.partner.specs.Record.{entry_in}
 use Rattle.partner.specs.Legal.{is_filled}

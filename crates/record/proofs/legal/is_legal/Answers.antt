@@ -1,11 +1,9 @@
 -- Unit by unit, which is the list of the rules.
 use mathlib.Core.Path.{◌≡◌, sym, ap, ◌∙◌}
 use mathlib.Core.Bool.{Bool, true, ◌&&◌}
-use native.Mathlib.Omega.{arith}
 use lib.Dec.{leb}
 use lib.ListN.{length}
 use borrow.Author.Tests.{le-leb, lt-leb}
-use borrow.Author.Rules.{rules}
 use Rattle.partner.specs.Record.{entry_in}
 use Rattle.partner.specs.Legal.{legal}
 use Rattle.partner.specs.Units.{sending_right, receiving_right, units_right}

@@ -2,7 +2,6 @@
 use mathlib.Core.Path.{refl, ap, ◌∙◌}
 use Prim.Native.Nat.{◌+◌}
 use native.Mathlib.Omega.{arith}
-use borrow.Author.Rules.{rules}
 use Rattle.octets.proofs.Parts.{part_cut}
 use Rattle.partner.specs.Legal.{is_named, is_unused, named_or_none, zero_place}
 use Rattle.partner.specs.Units.{place_formed}

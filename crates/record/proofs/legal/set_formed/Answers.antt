@@ -1,5 +1,4 @@
 -- Place by place.
-use borrow.Author.Rules.{rules}
 use Rattle.partner.specs.Units.{set_formed}
 use Rattle.record.proofs.legal.set_formed.Goals as goal
 
