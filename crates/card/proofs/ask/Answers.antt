@@ -48,4 +48,4 @@ returns c =
     let m = (was_roomy Ask im id [] 256 (length reply) z).1 in
     let p = put.put_entry.ensures in
     put_so _ _ reply _ _ _ ((ask_all im id (length reply)).done z) (ask_long im id (length reply) z o) (omega arith)
-    (p.0 ∙ ap (λ (x : Entry). (put_entry x reply).0) e) (p.1 ∙ ap (λ (x : Entry). (put_entry x reply).1) e) c.told_nothing.ensures
+    (p.rest_after ∙ ap (λ (x : Entry). (put_entry x reply).0) e) (p.value ∙ ap (λ (x : Entry). (put_entry x reply).1) e) c.told_nothing.ensures

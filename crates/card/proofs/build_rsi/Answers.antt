@@ -28,4 +28,4 @@ returns c =
     written_by BuildRsi a.image.now a.partner.now a.contents.now a.reply.now _ _ _
     (changed_went BuildRsi a.image.now a.partner.now a.contents.now a.reply.now _
     found.aim-aim.ensures _ found.find-found.ensures went.if-found-ne0.false _ own _ seen.slot-entry.ensures _ _ _
-    turned.turn-turned.ensures refl)
+    (turned.turn-turned.ensures.value, turned.turn-turned.ensures.reply_after) refl)

@@ -23,5 +23,5 @@ returns c =
     let aimed = found in
     let a = aimed.args in
     changed_went a.act a.image.now a.who.now a.text.now a.reply.now _ aimed.aim-aim.ensures _
-    found.find-found.ensures went.if-found-ne0.false _ own _ seen.slot-entry.ensures _ _ _ turned.turn-turned.ensures
+    found.find-found.ensures went.if-found-ne0.false _ own _ seen.slot-entry.ensures _ _ _ (turned.turn-turned.ensures.value, turned.turn-turned.ensures.reply_after)
     c.put_slot.ensures

@@ -19,7 +19,7 @@ returns-then-not-legal c =
     let a = judged.args in
     let s : seen a.aim a.image.now ≡ blind =
     ap (λ (b : Bool). cond (not b) blind (sighted a.aim a.image.now)) (sym judged.legal.ensures)
-    ∙ ap (λ (b : Bool). cond b blind (sighted a.aim a.image.now)) judged.if-not-legal.true in
+    ∙ ap (λ (b : Bool). cond (not b) blind (sighted a.aim a.image.now)) judged.if-not-legal.true in
     let g = c.nothing.ensures ∙ ap glance (sym s) in
     let answer = c.refusal.ensures ∙ ap (λ (g : Glance). first (order a.aim g a.act a.text.now a.room)) g in
     λ j. record { answer = answer j; slot = (sym s j).at }
@@ -32,7 +32,7 @@ returns c =
     let a = judged.args in
     let s : seen a.aim a.image.now ≡ sighted a.aim a.image.now =
     ap (λ (b : Bool). cond (not b) blind (sighted a.aim a.image.now)) (sym judged.legal.ensures)
-    ∙ ap (λ (b : Bool). cond b blind (sighted a.aim a.image.now)) judged.if-not-legal.false in
+    ∙ ap (λ (b : Bool). cond (not b) blind (sighted a.aim a.image.now)) judged.if-not-legal.false in
     let t = partner.theirs-theirs.ensures in
     let k = c.sought-slot.ensures ∙ ap (λ (n : ℕ). cond a.aim.vacant (free_slot a.image.now) n) t in
     let g : ◌≡◌ {A = Glance} _ (glance (sighted a.aim a.image.now)) =

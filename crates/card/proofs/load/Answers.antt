@@ -63,4 +63,4 @@ returns c =
     let put = c.load_slot.ensures in
     let j = ap (λ (x : Lookup). added_slot x.slot c.loaded-e.result im) k
     ∙ ap (λ (x : Entry). added_slot (seen (with_room (aim (Load (top_of key)) im id named) largest) im).at x im) e ∙ s.0 in
-    delivered_so _ _ out _ _ _ _ ((load_all im id a.name.now key (length out)).done z) j s.1 put.0 put.1 c.told_nothing.ensures
+    delivered_so _ _ out _ _ _ _ ((load_all im id a.name.now key (length out)).done z) j s.1 put.out_after put.value c.told_nothing.ensures

@@ -41,4 +41,4 @@ returns c =
     let s = remove_so im id (length out) z o in
     let put = c.remove_slot.ensures in
     let i = ap (λ (x : Lookup). removed_slot x.slot im) k ∙ s.0 in
-    delivered_so _ _ out _ _ _ _ ((remove_all im id (length out)).done z) i s.1 put.0 put.1 c.told_nothing.ensures
+    delivered_so _ _ out _ _ _ _ ((remove_all im id (length out)).done z) i s.1 put.out_after put.value c.told_nothing.ensures
