@@ -11,7 +11,6 @@ use borrow.Author.Tests.{eqb-true, eqb-false}
 use Rattle.octets.specs.Text.{Text}
 use Rattle.partner.specs.declared.Entry.{Entry}
 use Rattle.partner.specs.Entry.{empty}
-use Rattle.image.specs.Image as images
 use Rattle.image.specs.Image.{slots_in}
 use Rattle.image.proofs.Passes.{length_row as slots_length}
 use Rattle.row.specs.Stored.{slots_to_fill, refilled}
@@ -43,6 +42,13 @@ filled_0 a n h = go (eqb a 0) (eqb n 64) h
     go true true k = absurd (true≢false k)
     go true false k = refl
     go false c k = refl
+
+pub filled_most : (a n : ℕ) → slots_to_fill a n ≤ 64
+filled_most a n = go (eqb (slots_to_fill a n) 64) refl
+  where
+    go : (b : Bool) → eqb (slots_to_fill a n) 64 ≡ b → slots_to_fill a n ≤ 64
+    go true k = let x = eqb-true (slots_to_fill a n) 64 k in omega arith
+    go false k = let x = filled_0 a n k in omega arith
 
 pub filled_within : (a n m i : ℕ) → m ≡ slots_to_fill a n → i < m → i < n
 filled_within a n m i e h = go (eqb (slots_to_fill a n) 64) refl

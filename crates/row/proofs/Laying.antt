@@ -1,7 +1,7 @@
 -- Image writing: a slot's record laid at a place, and a row's records laid one after the other.
 use mathlib.Core.Path.{◌≡◌, refl, sym, ap, ◌∙◌}
 use mathlib.Core.Bool.{Bool, true, false, cond}
-use mathlib.Core.List.{List, map, [], ◌∷◌, ◌++◌, append_assoc, append-nil}
+use mathlib.Core.List.{List, [], ◌∷◌, ◌++◌, append_assoc, append-nil}
 use Prim.Native.Nat.{ℕ, ◌+◌, ◌-◌, ◌*◌, ◌^◌, ◌<◌, ◌≤◌}
 use native.Mathlib.Omega.{arith}
 use native.Mathlib.Numerals.{add-one}
@@ -9,7 +9,6 @@ use native.Mathlib.Nat.{add-zero}
 use lib.Dec.{eqb, ltb}
 use lib.ListN.{length, take, drop, get_or, length-append, length-take, length-drop, drop_of_length-le}
 use lib.Seq.{drop-drop, drop-cons, take_at, drop_at}
-use borrow.Author.Rules.{length_unmapped}
 use borrow.Author.Tests.{lt-ltb, le-ltb, ltb-true, ltb-false, eqb-true}
 use Rattle.octets.specs.Text.{Text}
 use Rattle.octets.specs.Number.{copies}
@@ -28,19 +27,13 @@ use Rattle.row.proofs.Filling.{filled_64, filled_0}
 
 -- 16 bytes, as the fields of an argument tell it
 abbrev Sixteen : Text → Type 0
-Sixteen l = length (map (λ (v : ℕ). v) l) ≡ 16
+Sixteen l = length l ≡ 16
 
 pub entry_held : (e : Entry) → Sixteen e.identity.bytes → Sixteen e.top.name.bytes
     → Sixteen e.sending.outgoing.first.name.bytes → Sixteen e.sending.outgoing.second.name.bytes
     → Sixteen e.receiving.incoming.first.name.bytes → Sixteen e.receiving.incoming.second.name.bytes
     → length (entry_bytes e) ≡ entry_size
-entry_held e i n a b c d =
-    names_size e (bare e.identity.bytes i) (bare e.top.name.bytes n) (bare e.sending.outgoing.first.name.bytes a)
-    (bare e.sending.outgoing.second.name.bytes b) (bare e.receiving.incoming.first.name.bytes c)
-    (bare e.receiving.incoming.second.name.bytes d)
-  where
-    bare : (l : Text) → Sixteen l → length l ≡ 16
-    bare l h = length_unmapped ℕ l 16 h
+entry_held e i n a b c d = names_size e i n a b c d
 
 -- the record of an empty slot, and of a partner
 pub empty_record : (e : Entry) → is_empty e ≡ true → slot_bytes e ≡ 0 ∷ []
@@ -166,7 +159,6 @@ pub record Laid (ys : List Entry) (out : Text) (m : ℕ) : Type 0 where
   pub t : ℕ
   pub zs : Text
   pub le : i ≤ m
-  pub fits : t < 2 ^ 64
   pub same_length : length zs ≡ length out
   pub so : put_slots t (drop i ys) zs ≡ put_slots 17 ys out
   pub unset : i ≡ 0 → zs ≡ out

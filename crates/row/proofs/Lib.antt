@@ -1,7 +1,3 @@
-pub mod Kit
-pub mod Walk
-pub mod Ringing
-pub mod Leaving
 pub mod Called
 pub mod Asking
 pub mod Filling

@@ -1,5 +1,7 @@
 // The calls of document 01 over a lent row of entry structs: one function for all that turn an entry, and ask, start, image
 // reading and image writing.
+#![tactic(auto)]
+
 ghost use Rattle.std.specs.Prelude.{◌≡◌, length, set, get_or, drop};
 ghost use Rattle.partner.specs.Entry.{empty};
 ghost use Rattle.partner.specs.Table.{identities, differs};
