@@ -14,16 +14,16 @@ pub bit_lt : (n i x : ℕ) → bit n i x < 2
 unfolding bit
 bit_lt n i x = omega arith
 
-bit-of_xor : (n i a b : ℕ) → bit n i (bit_xor a b) ≡ bit_xor (bit n i a) (bit n i b)
+bit_of_xor : (n i a b : ℕ) → bit n i (bit_xor a b) ≡ bit_xor (bit n i a) (bit n i b)
 unfolding bit
-bit-of_xor n i a b = ap (λ (x : ℕ). x % 2) (xor_shr a b (n - i)) ∙ xor_mod (a / 2 ^ (n - i)) (b / 2 ^ (n - i)) 1
+bit_of_xor n i a b = ap (λ (x : ℕ). x % 2) (xor_shr a b (n - i)) ∙ xor_mod (a / 2 ^ (n - i)) (b / 2 ^ (n - i)) 1
 
 gather_xor : (n a b c d : ℕ) (ts : List ℕ)
     → gather n (bit_xor a b) (bit_xor c d) ts ≡ bit_xor (gather n a c ts) (gather n b d ts)
 gather_xor n a b c d [] = refl
 gather_xor n a b c d (t ∷ ts) =
     ap (λ (x : ℕ). gather n (bit_xor a b) x ts)
-    (ap (λ (x : ℕ). bit_xor c d * 2 + x) (bit-of_xor n t a b)
+    (ap (λ (x : ℕ). bit_xor c d * 2 + x) (bit_of_xor n t a b)
     ∙ sym (xor_block 1 c d (bit n t a) (bit n t b) (bit_lt n t a) (bit_lt n t b)))
     ∙ gather_xor n a b (c * 2 + bit n t a) (d * 2 + bit n t b) ts
 

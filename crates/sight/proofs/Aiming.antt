@@ -1,7 +1,7 @@
 -- The originator of a text, class by class: what the code has of a reading is what the reading has.
 use mathlib.Core.Path.{◌≡◌, sym, ap, ◌∙◌}
 use mathlib.Core.Bool.{not, cond}
-use mathlib.Core.Option.{Option, some}
+use mathlib.Core.Option.{some}
 use Rattle.octets.specs.Text.{Text, same}
 use Rattle.octets.specs.Part.{part}
 use Rattle.csm.specs.Message.{Reading, read}

@@ -4,7 +4,6 @@ use mathlib.Core.Bool.{Bool, true, false, ◌&&◌}
 use Rattle.octets.specs.Text.{is_name}
 use Rattle.partner.specs.Legal.{legal}
 use Rattle.outcome.specs.Acts.{sound}
-use borrow.Author.Rules.{rules}
 use Rattle.outcome.proofs.is_sound.Goals as goal
 
 pub returns-then-is_name : goal.returns-then-is_name

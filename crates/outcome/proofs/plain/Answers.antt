@@ -1,5 +1,4 @@
 -- `outcome::plain` meets its contract, part by part. Assumes nothing.
-use borrow.Author.Rules.{rules}
 use Rattle.outcome.proofs.plain.Goals as goal
 
 pub returns : goal.returns

@@ -1,6 +1,5 @@
 -- `outcome::refused` meets its contract, part by part. Assumes nothing.
 use Rattle.outcome.specs.Report.{turned}
-use borrow.Author.Rules.{rules}
 use Rattle.outcome.proofs.refused.Goals as goal
 
 pub returns : goal.returns

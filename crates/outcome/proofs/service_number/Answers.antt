@@ -1,6 +1,5 @@
 -- `outcome::service_number` meets its contract: one of the twelve, or none. Assumes nothing.
 use borrow.Author.Tests.{lt-ltb, le-ltb}
-use borrow.Author.Rules.{rules}
 use Rattle.outcome.proofs.service_number.Goals as goal
 
 pub returns-then-place-lt12 : goal.returns-then-place-lt12

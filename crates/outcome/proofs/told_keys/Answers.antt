@@ -1,5 +1,4 @@
 -- `outcome::told_keys` meets its contract, part by part. Assumes nothing.
-use borrow.Author.Rules.{rules}
 use Rattle.outcome.proofs.told_keys.Goals as goal
 
 pub returns : goal.returns

@@ -1,6 +1,5 @@
 -- `outcome::told_service` meets its contract, part by part. Assumes nothing.
 use Rattle.outcome.specs.Report.{report}
-use borrow.Author.Rules.{rules}
 use Rattle.outcome.proofs.told_service.Goals as goal
 
 pub returns : goal.returns

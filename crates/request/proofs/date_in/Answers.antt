@@ -3,7 +3,6 @@ use mathlib.Core.Path.{◌∙◌}
 use Prim.Native.Nat.{◌+◌}
 use native.Mathlib.Omega.{arith}
 use Rattle.octets.proofs.Parts.{part_laid}
-use borrow.Author.Rules.{rules}
 use Rattle.request.proofs.date_in.Goals as goal
 
 pub returns : goal.returns

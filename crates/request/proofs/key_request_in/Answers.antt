@@ -9,7 +9,6 @@ use Rattle.octets.proofs.Comparing.{octets_lent}
 use Rattle.octets.proofs.Parts.{length_part, part_cut, part_byte, part_fits}
 use Rattle.partner.specs.Entry.{name_of}
 use Rattle.request.proofs.Names.{name_whole}
-use borrow.Author.Rules.{rules}
 use Rattle.request.proofs.key_request_in.Goals as goal
 
 pub returns : goal.returns

@@ -4,7 +4,6 @@ use mathlib.Core.Bool.{Bool, cond}
 use borrow.Author.Tests.{eq-eqb, ne_eqb}
 use Rattle.request.specs.Request.{no_request}
 use Rattle.request.specs.Request.{whole_in, request_in}
-use borrow.Author.Rules.{rules}
 use Rattle.request.proofs.request_in.Goals as goal
 
 pub returns-then-s-ne-SIZE : goal.returns-then-s-ne-SIZE

@@ -7,7 +7,6 @@ use Rattle.octets.specs.Number.{number}
 use Rattle.octets.proofs.Comparing.{octets_lent}
 use Rattle.octets.proofs.Parts.{part_cut, part_byte, part_fits}
 use Rattle.request.specs.Request.{whole_in}
-use borrow.Author.Rules.{rules}
 use Rattle.request.proofs.whole_in.Goals as goal
 
 pub returns : goal.returns

@@ -1,5 +1,4 @@
 -- `sight::concluded` meets its contract: field by field. Assumes nothing.
-use borrow.Author.Rules.{rules}
 use mathlib.Core.Path.{ap, ◌∙◌}
 use mathlib.Core.Bool.{Bool, ◌&&◌}
 use Rattle.sight.proofs.Seeing.{ends_found, ends_without}

@@ -1,9 +1,7 @@
 -- `sight::differ` meets its contract: test by test. Assumes nothing.
 use mathlib.Core.Path.{◌≡◌, sym, ap, ◌∙◌}
 use mathlib.Core.Bool.{true, false, not}
-use borrow.Author.Tests.{not-true, not-false}
 use Rattle.partner.specs.Table.{is_empty}
-use borrow.Author.Rules.{rules}
 use Rattle.sight.specs.Sight.{differ}
 use Rattle.sight.proofs.differ.Goals as goal
 

@@ -4,7 +4,6 @@ use Rattle.octets.specs.Text.{Text, same}
 use Rattle.octets.specs.Number.{copies}
 use Rattle.partner.specs.Record.{entry_size, entry_bytes, put_entry}
 use mathlib.Core.Path.{ap, ◌∙◌}
-use borrow.Author.Rules.{rules}
 use Rattle.partner.specs.Table.{is_empty}
 use Rattle.sight.proofs.is_empty.Goals as goal
 

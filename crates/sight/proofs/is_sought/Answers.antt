@@ -3,7 +3,6 @@ use Rattle.partner.specs.Table.{is_empty}
 use Rattle.sight.specs.Sight.{is_theirs}
 use mathlib.Core.Path.{◌≡◌, sym, ap, ◌∙◌}
 use mathlib.Core.Bool.{Bool, true, cond}
-use borrow.Author.Rules.{rules}
 use Rattle.sight.specs.Sight.{is_sought}
 use Rattle.sight.proofs.is_sought.Goals as goal
 

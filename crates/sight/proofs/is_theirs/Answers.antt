@@ -1,7 +1,6 @@
 -- `sight::is_theirs` meets its contract: test by test. Assumes nothing.
 use mathlib.Core.Path.{◌≡◌}
 use mathlib.Core.Bool.{true, false}
-use borrow.Author.Rules.{rules}
 use Rattle.sight.specs.Sight.{is_theirs}
 use Rattle.sight.proofs.is_theirs.Goals as goal
 

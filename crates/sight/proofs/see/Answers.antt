@@ -1,5 +1,4 @@
 -- `sight::see` meets its contract: field by field. Assumes nothing.
-use borrow.Author.Rules.{rules}
 use mathlib.Core.Path.{sym, ap, ◌∙◌}
 use mathlib.Core.Bool.{Bool, ◌&&◌, ◌||◌}
 use Rattle.sight.proofs.Seeing.{found_before, found_here, not_found}

@@ -2,7 +2,6 @@
 use mathlib.Core.Path.{ap, ◌∙◌}
 use mathlib.Core.Bool.{not}
 use Prim.Native.Nat.{ℕ}
-use borrow.Author.Rules.{rules}
 use Rattle.octets.specs.First.{then}
 use Rattle.sight.proofs.Showing.{is_refused, is_given}
 use Rattle.sight.proofs.shown.Goals as goal

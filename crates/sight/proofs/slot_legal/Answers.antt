@@ -1,10 +1,8 @@
 -- `sight::slot_legal` meets its contract: test by test. Assumes nothing.
 use mathlib.Core.Path.{◌≡◌, sym, ◌∙◌}
 use mathlib.Core.Bool.{true, false}
-use borrow.Author.Tests.{not-true, not-false}
 use Rattle.octets.specs.Text.{same}
 use Rattle.partner.specs.Table.{is_empty}
-use borrow.Author.Rules.{rules}
 use Rattle.sight.specs.Sight.{slot_legal}
 use Rattle.sight.proofs.slot_legal.Goals as goal
 

@@ -1,5 +1,4 @@
 -- `sight::unseen` meets its contract: field by field. Assumes nothing.
-use borrow.Author.Rules.{rules}
 use Rattle.sight.proofs.unseen.Goals as goal
 
 pub returns : goal.returns

@@ -1,6 +1,5 @@
 -- `sight::aims::aim_of` meets its contract: act by act. Assumes nothing.
 use mathlib.Core.Path.{ap, ◌∙◌}
-use borrow.Author.Rules.{rules}
 use Rattle.sight.specs.declared.aims.Aim.{Aim}
 use Rattle.sight.specs.Aim.{with_room, aim_of}
 use Rattle.sight.proofs.Aiming.{aims_as}

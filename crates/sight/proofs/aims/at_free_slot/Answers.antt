@@ -2,7 +2,6 @@
 use mathlib.Core.Path.{ap}
 use mathlib.Core.Bool.{true}
 use Rattle.sight.specs.declared.aims.Aim.{Aim}
-use borrow.Author.Rules.{rules}
 use Rattle.sight.proofs.aims.at_free_slot.Goals as goal
 
 pub returns : goal.returns

@@ -1,5 +1,4 @@
 -- `sight::aims::at_partner` meets its contract: field by field. Assumes nothing.
-use borrow.Author.Rules.{rules}
 use Rattle.sight.proofs.aims.at_partner.Goals as goal
 
 pub returns : goal.returns

@@ -1,7 +1,6 @@
 -- `sight::aims::of_text` meets its contract: class by class. Assumes nothing.
 use Rattle.sight.proofs.Aiming.{of_rsi, of_ksm, of_rsm, of_esm, of_option, of_none}
 use mathlib.Core.Path.{sym, ◌∙◌}
-use borrow.Author.Rules.{rules}
 use Rattle.sight.proofs.aims.of_text.Goals as goal
 
 pub returns-in-Rsi : goal.returns-in-Rsi

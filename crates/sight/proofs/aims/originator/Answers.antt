@@ -4,8 +4,6 @@ use Rattle.octets.specs.Part.{part}
 use Rattle.sight.specs.Aim.{at_partner, refused}
 use mathlib.Core.Path.{◌≡◌, sym, ap, ◌∙◌}
 use mathlib.Core.Bool.{Bool, true, false, not, cond}
-use borrow.Author.Tests.{not-true, not-false}
-use borrow.Author.Rules.{rules}
 use Rattle.sight.specs.Aim.{originator}
 use Rattle.sight.proofs.aims.originator.Goals as goal
 

@@ -1,7 +1,6 @@
 -- `sight::aims::refused` meets its contract: field by field. Assumes nothing.
 use Rattle.sight.specs.declared.aims.Aim.{Aim}
 use mathlib.Core.Path.{ap}
-use borrow.Author.Rules.{rules}
 use Rattle.sight.proofs.aims.refused.Goals as goal
 
 pub returns : goal.returns
