@@ -25,7 +25,7 @@ use Rattle.calls.specs.Outcome.{Turn, nothing, refused, done}
 use Rattle.calls.specs.Receive.{to_partner}
 use Rattle.calls.specs.Build.{malformed, outgoing_of, ksm_text}
 use Rattle.calls.specs.Build as calls
-use Rattle.calls.specs.Words.{if◌then◌else◌}
+use Rattle.calls.specs.Words.{in_case◌then◌else◌}
 use Rattle.calls.proofs.Tests.{if_true, if_false}
 use Rattle.outcome.specs.Acts.{sound, guarded, build_ksm, build_rsi, Ready}
 use Rattle.building.specs.Order as order
@@ -50,8 +50,8 @@ record Walks (e : Entry) (last t : Turn) (ts : Order) : Type 0 where
 
 -- a step that asks a test first, beside the order that has it first
 asks : {e : Entry} {last t : Turn} {ts : Order} (b : Bool) (n : ℕ) → (n ≡ 0 → ⊥) → Walks e last t ts
-    → Walks e last (if b then refused e n else t) ((b, n) ∷ ts)
-unfolding if◌then◌else◌
+    → Walks e last (in_case b then refused e n else t) ((b, n) ∷ ts)
+unfolding in_case◌then◌else◌
 asks {ts = ts} true n z w = record {
   turn = rw (holds_first n ts z, ne_eqb n 0 z);
   passed = λ p. absurd (z (sym (holds_first n ts z) ∙ p));

@@ -33,7 +33,7 @@ use Rattle.messages.specs.Answers.{writes, answer, length_of, buffer}
 use Rattle.messages.proofs.Claims as messages
 use Rattle.calls.specs.declared.KeyRequest.{KeyRequest}
 use Rattle.calls.specs.declared.Request.{Request}
-use Rattle.calls.specs.Words.{if◌then◌else◌}
+use Rattle.calls.specs.Words.{in_case◌then◌else◌}
 use Rattle.calls.specs.Outcome.{Turn}
 use Rattle.calls.specs.Receive.{to_partner}
 use Rattle.calls.specs.Build.{bad_key, wants_idk1, wants_idk2, wants_nos, asked, kd_for, iv_for, outgoing_of, ksm_body, ksm_text}
@@ -73,12 +73,12 @@ name_is true n f = go (bare n.bytes) (f refl)
 -- ---- the IV
 
 iv_is : (q : Request) → iv_of (vector_for q) ≡ iv_for q
-unfolding vector_for iv_for if◌then◌else◌
+unfolding vector_for iv_for in_case◌then◌else◌
 iv_is q = go (conceal (keys_in (outgoing_of q)) q.iv) (eqb q.kind 1) (eqb q.kind 2)
   where
-    go : (v : ℕ) (a b : Bool) → iv_of (if a then Plain q.iv else if b then Enciphered v else Absent)
-        ≡ (if a then some (ascii "P" ++ hex_text 16 q.iv) else
-        if b then some (ascii "E" ++ hex_text 16 v) else none)
+    go : (v : ℕ) (a b : Bool) → iv_of (in_case a then Plain q.iv else in_case b then Enciphered v else Absent)
+        ≡ (in_case a then some (ascii "P" ++ hex_text 16 q.iv) else
+        in_case b then some (ascii "E" ++ hex_text 16 v) else none)
     go v true b = refl
     go v false true = refl
     go v false false = refl
@@ -108,7 +108,7 @@ module _ (own : Text) (e : Entry) (q : Request) (lawful : partner.legal e ≡ tr
 
   second_is : Keyed q → there (eqb q.count 2) (kd_of (second_for own e q (key_for own e q q.first)))
       ≡ asked (eqb q.count 2) (kd_for own e q q.second)
-  unfolding second_for if◌then◌else◌
+  unfolding second_for in_case◌then◌else◌
   second_is (one p h) = rw (not_two q p)
   second_is (two p r h i) = rw r (ap some (kd_is q.second i))
 
@@ -161,7 +161,7 @@ made own e q a b c = λ t. ksm_reading (a t) own (b t) (c t)
 -- the second key as it was made is that one
 pub seconds : (own : Text) (e : Entry) (q : Request) (first : Key) {sealed : Blocks} → sealed ≡ sealed_for own e q
     → second_as e q sealed.second first ≡ second_for own e q first
-unfolding second_as second_for sealed_for if◌then◌else◌
+unfolding second_as second_for sealed_for in_case◌then◌else◌
 seconds own e q first {sealed} h = go (eqb q.count 2) refl
   where
     go : (b : Bool) → eqb q.count 2 ≡ b → second_as e q sealed.second first ≡ second_for own e q first

@@ -16,7 +16,7 @@ use Rattle.partner.specs.declared.Entry.{Entry}
 use Rattle.partner.specs.Entry.{blanks, keys_in}
 use Rattle.calls.specs.declared.KeyRequest.{KeyRequest}
 use Rattle.calls.specs.declared.Request.{Request}
-use Rattle.calls.specs.Words.{if◌then◌else◌}
+use Rattle.calls.specs.Words.{in_case◌then◌else◌}
 use Rattle.calls.specs.Receive.{to_partner}
 use Rattle.calls.specs.Build.{wants_p, wants_idk1, wants_idk2, wants_nos, outgoing_of, working_for}
 
@@ -44,16 +44,16 @@ key_for own e q k = key_as e k (seal (working_for own e q) k.key)
 
 -- the second key of two; where there is one, that one
 unfoldable pub second_as : Entry → Request → ℕ → Key → Key
-second_as e q sealed first = if eqb q.count 2 then key_as e q.second sealed else first
+second_as e q sealed first = in_case eqb q.count 2 then key_as e q.second sealed else first
 
 unfoldable pub second_for : Text → Entry → Request → Key → Key
-second_for own e q first = if eqb q.count 2 then key_for own e q q.second else first
+second_for own e q first = in_case eqb q.count 2 then key_for own e q q.second else first
 
 -- the IV: none, its value, or its value enciphered
 unfoldable pub vector_for : Request → Vector
 vector_for q =
-    if eqb q.kind 1 then Plain q.iv else
-    if eqb q.kind 2 then Enciphered (conceal (keys_in (outgoing_of q)) q.iv) else Absent
+    in_case eqb q.kind 1 then Plain q.iv else
+    in_case eqb q.kind 2 then Enciphered (conceal (keys_in (outgoing_of q)) q.iv) else Absent
 
 -- what the KSM of a request says
 unfoldable pub ksm_for : Text → Entry → Request → Ksm

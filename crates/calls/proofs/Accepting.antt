@@ -18,7 +18,7 @@ use Rattle.partner.specs.Entry.{limit, keys_in}
 use Rattle.partner.specs.Changes.{with_receiving, with_sending, accepted, issued, settled}
 use Rattle.partner.specs.Table.{Table, legal}
 use Rattle.calls.specs.declared.Request.{Request}
-use Rattle.calls.specs.Words.{if◌then◌else◌, any}
+use Rattle.calls.specs.Words.{in_case◌then◌else◌, any}
 use Rattle.calls.specs.Outcome.{nothing, keys, confirmation, failure, success, done}
 use Rattle.calls.specs.Receive as by_class
 use Rattle.calls.specs.Receive.{rsm_text, brought, faults, foreign, uneven, kds, bad_format}
@@ -64,19 +64,19 @@ module _ (t : Table) (lawful : legal t ≡ true) (room : ℕ) (roomy : 256 ≤ r
     (known : entry_of id t ≡ some e) where
   pub receive_turns : (text : Text) (b : Body) → Carries id (bare t.own) b text
       → run t (receive room text) ≡ put_back t id (by_class.receive (bare t.own) e text b)
-  unfolding run perform receiving at_partner if◌then◌else◌
+  unfolding run perform receiving at_partner in_case◌then◌else◌
   receive_turns text b h = rw (lawful, le-ltb room 256 roomy, h, same_refl (bare t.own), known)
 
   pub build_turns : (q : Request)
       → run t (about id (build_ksm room q)) ≡ put_back t id (building.build_ksm (bare t.own) e q)
-  unfolding run perform at_partner if◌then◌else◌
+  unfolding run perform at_partner in_case◌then◌else◌
   build_turns q = rw (lawful, le-ltb room 256 roomy, known)
 
 -- ---- a KSM
 
 pub ksm_turn : (us : Text) (e : Entry) (text : Text) (m : Ksm) → Passes us e text m → by_class.receive us e text (ksm m)
     ≡ done (with_receiving e (accepted m.ctp (brought us e m))) (rsm_text us e (brought us e m)) (keys (iv_of (brought us e m) m) m.edk)
-unfolding by_class.receive receive_ksm judged if◌then◌else◌ faults bad_mac bad_count
+unfolding by_class.receive receive_ksm judged in_case◌then◌else◌ faults bad_mac bad_count
 ksm_turn us e text m good =
     let k = good.not_last in
     rw (
@@ -112,7 +112,7 @@ pub rsm_taken : (t : Table) (room : ℕ) (text id : Text) (m : Rsm) (e : Entry) 
     → is_waiting e.sending ≡ true → m.mac ≡ mac (mac_key (keys_in e.sending.outgoing)) (covered text)
     → ((run t (receive room text)).outcome ≡ success [] confirmation)
     × (entry_of id (run t (receive room text)).table ≡ some (with_sending e (settled e.sending)))
-unfolding by_class.receive receive_rsm bad_mac if◌then◌else◌
+unfolding by_class.receive receive_rsm bad_mac in_case◌then◌else◌
 rsm_taken t room text id m e l r c k w s =
     rw (
       receive_turns t l room r id e k text (rsm m) c,
@@ -126,7 +126,7 @@ pub esm_breaking : (t : Table) (room : ℕ) (text id : Text) (m : Esm) (e : Entr
     → Carries id (bare t.own) (esm m) text → entry_of id t ≡ some e → is_waiting e.sending ≡ true
     → ((run t (receive room text)).outcome ≡ success [] (failure m.erf))
     × (entry_of id (run t (receive room text)).table ≡ some (with_sending e (after_esm e.sending m)))
-unfolding by_class.receive receive_esm if◌then◌else◌
+unfolding by_class.receive receive_esm in_case◌then◌else◌
 esm_breaking t room text id m e l r c k w =
     rw (receive_turns t l room r id e k text (esm m) c, w)
     (refl, turned_after t id e (with_sending e (after_esm e.sending m)) (entry_held t id e k) refl)
@@ -137,7 +137,7 @@ pub request_built : (t : Table) (room : ℕ) (id : Text) (q : Request) (e : Entr
     → entry_of id t ≡ some e → Fit e q
     → run t (about id (build_ksm room q))
     ≡ put_back t id (done (with_sending e (issued e.sending (outgoing_of q))) (ksm_text (bare t.own) e q) nothing)
-unfolding building.build_ksm if◌then◌else◌
+unfolding building.build_ksm in_case◌then◌else◌
 request_built t room id q e l r k g =
     let n = g.not_last in
     build_turns t l room r id e k q

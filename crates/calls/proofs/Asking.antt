@@ -13,7 +13,7 @@ use Rattle.partner.specs.Entry.{waiting}
 use Rattle.partner.specs.Legal.{is_filled}
 use Rattle.calls.specs.declared.KeyRequest.{KeyRequest}
 use Rattle.calls.specs.declared.Request.{Request}
-use Rattle.calls.specs.Words.{if◌then◌else◌, any}
+use Rattle.calls.specs.Words.{in_case◌then◌else◌, any}
 use Rattle.calls.specs.Receive.{is_waiting}
 use Rattle.calls.specs.Build.{used, not_odd, bad_key, bad_keys, malformed, wants_idk1}
 use Rattle.calls.specs.Good.{Uses, only, first, second, OddWhereMarked, FormedKey, FormedRequest, GoodRequest}
@@ -24,11 +24,11 @@ use Rattle.calls.proofs.Requests.{tested}
 -- ---- the keys that are used
 
 used_one : (q : Request) → q.count ≡ 1 → used q ≡ q.first ∷ []
-unfolding used if◌then◌else◌
+unfolding used in_case◌then◌else◌
 used_one q p = rw (eq-eqb q.count 1 p)
 
 used_two : (q : Request) → q.count ≡ 2 → used q ≡ q.first ∷ q.second ∷ []
-unfolding used if◌then◌else◌
+unfolding used in_case◌then◌else◌
 used_two q p = rw (ne_eqb q.count 1 (λ i. omega arith), eq-eqb q.count 2 p)
 
 pub of_used : (f : KeyRequest → Bool) (q : Request) → any f (used q) ≡ false → (k : KeyRequest) → Uses q k → f k ≡ false
@@ -49,7 +49,7 @@ data Number (q : Request) : Type 0 where
   neither : (q.count ≡ 1 → ⊥) → (q.count ≡ 2 → ⊥) → used q ≡ [] → Number q
 
 number : (q : Request) → Number q
-unfolding used if◌then◌else◌
+unfolding used in_case◌then◌else◌
 number q =
     by_test (eqb q.count 1) (λ p. one (eqb-true q.count 1 p)) λ p.
     by_test (eqb q.count 2) (λ r. two (eqb-true q.count 2 r)) λ r.

@@ -17,7 +17,7 @@ use Rattle.partner.specs.declared.Entry.{Entry}
 use Rattle.partner.specs.Entry.{limit, waiting}
 use Rattle.partner.proofs.Keeping.{rules}
 use Rattle.partner.specs.Table.{Table}
-use Rattle.calls.specs.Words.{if◌then◌else◌, any}
+use Rattle.calls.specs.Words.{in_case◌then◌else◌, any}
 use Rattle.calls.specs.Outcome.{F, I, K, M, O, P, Turn}
 use Rattle.calls.specs.Receive as by_class
 use Rattle.calls.specs.Receive.{error, esm_body, foreign, uneven, kds, brought, when, faults}
@@ -71,14 +71,14 @@ module _ (t : Table) (room : ℕ) (text id : Text) (m : Ksm) (e : Entry) (g : Co
     (c : Carries id (bare t.own) (ksm m) text) where
   pub foreign_is_I : (k : Kd) → KdOf m k → (Ours e k → ⊥)
       → Tells (bare t.own) id (ascii "I") none none (run t (receive room text)).outcome
-  unfolding by_class.receive receive_ksm if◌then◌else◌
+  unfolding by_class.receive receive_ksm in_case◌then◌else◌
   foreign_is_I k i n =
       told t room text id (ksm m) e I none g c
       (rw (of_one (foreign e) m k i (not_failing (foreign e k) (λ p. n (ours e k p))))) (esm_legal I refl refl)
 
   pub even_is_K : ((k : Kd) → KdOf m k → Ours e k) → (k : Kd) → KdOf m k → k.p ≡ true → odd (in_clear (bare t.own) e m k) ≡ false
       → Tells (bare t.own) id (ascii "K") none none (run t (receive room text)).outcome
-  unfolding by_class.receive receive_ksm uneven if◌then◌else◌
+  unfolding by_class.receive receive_ksm uneven in_case◌then◌else◌
   even_is_K f k i p h =
       told t room text id (ksm m) e K none g c
       (rw (no_foreign e m f, of_one (uneven (bare t.own) e m) m k i (rw (p, h)))) (esm_legal K refl refl)
@@ -127,7 +127,7 @@ module _ (us : Text) (e : Entry) (text : Text) (m : Ksm) (set : KeySet) (f s c :
     (jc : Judged (InTurn e.receiving.expected m.ctp) c) where
   pub judged_turn : f && s && c ≡ false
       → by_class.receive us e text (ksm m) ≡ error us e (letters f s c) (counts c e.receiving.expected m.ctp)
-  unfolding by_class.receive receive_ksm judged faults if◌then◌else◌
+  unfolding by_class.receive receive_ksm judged faults in_case◌then◌else◌
   judged_turn h =
       let i = brings_only us e m set b in
       let p : bad_format (brought us e m) m ≡ not f =
@@ -164,7 +164,7 @@ faults_told t room text id m e set f s c g x n u b jf js jc h =
 pub bad_rsm : (t : Table) (room : ℕ) (text id : Text) (m : Rsm) (e : Entry) → Comes t room id e
     → Carries id (bare t.own) (rsm m) text → e.sending.phase ≡ waiting → (Sealed e.sending.outgoing text m.mac → ⊥)
     → Tells (bare t.own) id (ascii "M") none none (run t (receive room text)).outcome
-unfolding by_class.receive receive_rsm is_waiting if◌then◌else◌
+unfolding by_class.receive receive_rsm is_waiting in_case◌then◌else◌
 bad_rsm t room text id m e g c w n =
     let b = not_failing (bad_mac e.sending.outgoing text m.mac)
     (λ p. n (is_sealed e.sending.outgoing text m.mac p)) in

@@ -11,7 +11,7 @@ use Rattle.csm.proofs.MessageLaws.{read_back, legal_parts as reading_parts}
 use Rattle.partner.specs.declared.Entry.{Entry}
 use Rattle.partner.specs.Legal as partner
 use Rattle.partner.specs.Table.{Table, legal}
-use Rattle.calls.specs.Words.{if◌then◌else◌}
+use Rattle.calls.specs.Words.{in_case◌then◌else◌}
 use Rattle.calls.specs.Outcome.{Turn}
 use Rattle.calls.specs.Calls.{Act, build_ksm, build_rsi, give_up, remove, ask, Call, receive, about, load, After, refuse}
 use Rattle.calls.specs.Calls.{entry_of, after_turn, at_partner, receiving, emptied, short, no_room, acting, perform, run}
@@ -37,8 +37,8 @@ does_keeping {e = e} r d = change_identity e r.entry (does_change r d)
 module _ (t : Table) (s : List Entry) (lawful : legal t ≡ true) (lawful' : legal (holding t s) ≡ true) where
   module _ (id : Text) (same_entry : entry_of id t ≡ entry_of id (holding t s)) where
     alike_if : (b : Bool) (x y : After) (n : ℕ) → Alike id x y
-        → Alike id (if b then refuse t n else x) (if b then refuse (holding t s) n else y)
-    unfolding if◌then◌else◌
+        → Alike id (in_case b then refuse t n else x) (in_case b then refuse (holding t s) n else y)
+    unfolding in_case◌then◌else◌
     alike_if true x y n h = (refl, same_entry)
     alike_if false x y n h = h
 
@@ -94,7 +94,7 @@ module _ (t : Table) (s : List Entry) (lawful : legal t ≡ true) (lawful' : leg
 
   alike_run : (c : Call) → OfOneEntry c → entry_of (subject c) t ≡ entry_of (subject c) (holding t s)
       → Alike (subject c) (run t c) (run (holding t s) c)
-  unfolding run if◌then◌else◌
+  unfolding run in_case◌then◌else◌
   alike_run c o h = rw (lawful, lawful') (alike_perform c o h)
 
 pub alike : (t u : Table) (c : Call) → OfOneEntry c → legal t ≡ true → legal u ≡ true → t.own ≡ u.own

@@ -29,7 +29,7 @@ use Rattle.partner.specs.Entry.{name_of, top_of, keys_in, one_key, two_keys}
 use Rattle.partner.specs.Table.{Table}
 use Rattle.calls.specs.declared.KeyRequest.{KeyRequest}
 use Rattle.calls.specs.declared.Request.{Request}
-use Rattle.calls.specs.Words.{if◌then◌else◌, any, some_has}
+use Rattle.calls.specs.Words.{in_case◌then◌else◌, any, some_has}
 use Rattle.calls.specs.Receive.{foreign, deciphered, uneven, kds, brought_key, brought, iv_value, iv_of}
 use Rattle.calls.specs.Receive.{bad_format}
 use Rattle.calls.specs.Build.{used, not_odd, wants_p, wants_idk1, wants_idk2, wants_nos, outgoing_key, outgoing_of}
@@ -86,7 +86,7 @@ module _ (us them : Text) (e f : Entry) (q : Request) (met : Met us them e f) wh
   }
 
   pub keys_back : q.first.key < 2 ^ 64 → q.second.key < 2 ^ 64 → brought them f (sent us e q) ≡ outgoing_of q
-  unfolding brought outgoing_of if◌then◌else◌ sent
+  unfolding brought outgoing_of in_case◌then◌else◌ sent
   keys_back x y =
       let a = data_key_back q.first x in
       let b = data_key_back q.second y in
@@ -114,7 +114,7 @@ module _ (us them : Text) (e f : Entry) (q : Request) (met : Met us them e f) wh
 
   pub no_uneven : Keyed q → Sized q → any not_odd (used q) ≡ false
       → any (uneven them f (sent us e q)) (kds (sent us e q)) ≡ false
-  unfolding any used if◌then◌else◌
+  unfolding any used in_case◌then◌else◌
   no_uneven (one p b) s h =
       ap (any (uneven them f (sent us e q))) (one_sent us e q (not_two q p))
       ∙ rw (uneven_back q.first s.first) (rw p at h)
@@ -125,11 +125,11 @@ module _ (us them : Text) (e f : Entry) (q : Request) (met : Met us them e f) wh
 -- ---- the IV and the date arrive
 
 plain_back : (ks : List ℕ) (n : ℕ) → n < 2 ^ 64 → iv_value ks (code "P" ∷ hex_text 16 n) ≡ some n
-unfolding iv_value if◌then◌else◌
+unfolding iv_value in_case◌then◌else◌
 plain_back ks n h = rw (hex_passes 16 n) (ap {B = Option ℕ} some (hex_number 16 n h))
 
 secret_back : (ks : List ℕ) (n : ℕ) → n < 2 ^ 64 → iv_value ks (code "E" ∷ hex_text 16 (conceal ks n)) ≡ some n
-unfolding iv_value if◌then◌else◌
+unfolding iv_value in_case◌then◌else◌
 secret_back ks n h =
     rw (hex_passes 16 (conceal ks n))
     (ap (λ (x : ℕ). some (reveal ks x)) (hex_number 16 (conceal ks n) (conceal_lt ks n))
@@ -152,12 +152,12 @@ unfolding some_has
 iv_none ks = record { value = refl; format = refl }
 
 iv_back : (q : Request) → q.iv < 2 ^ 64 → IvBack (keys_in (outgoing_of q)) (iv_for q) (iv_asked q)
-unfolding iv_for if◌then◌else◌
+unfolding iv_for in_case◌then◌else◌
 iv_back q h = go (eqb q.kind 1) (eqb q.kind 2)
   where
     go : (a b : Bool) → IvBack (keys_in (outgoing_of q))
-        (if a then some (code "P" ∷ hex_text 16 q.iv) else
-        if b then some (code "E" ∷ hex_text 16 (conceal (keys_in (outgoing_of q)) q.iv)) else none)
+        (in_case a then some (code "P" ∷ hex_text 16 q.iv) else
+        in_case b then some (code "E" ∷ hex_text 16 (conceal (keys_in (outgoing_of q)) q.iv)) else none)
         (asked (a || b) q.iv)
     go true b = iv_some (keys_in (outgoing_of q)) _ q.iv (plain_back (keys_in (outgoing_of q)) q.iv h)
     go false true = iv_some (keys_in (outgoing_of q)) _ q.iv (secret_back (keys_in (outgoing_of q)) q.iv h)

@@ -11,7 +11,7 @@ use Rattle.partner.specs.Entry.{filled}
 use Rattle.partner.proofs.Claims.{claims}
 use Rattle.calls.specs.declared.KeyRequest.{KeyRequest}
 use Rattle.calls.specs.declared.Request.{Request}
-use Rattle.calls.specs.Words.{if◌then◌else◌}
+use Rattle.calls.specs.Words.{in_case◌then◌else◌}
 use Rattle.calls.specs.Build.{wants_nos, outgoing_key, outgoing_of, asked, kd_for, iv_for}
 use Rattle.calls.specs.Good.{only, first, second, FormedKey, FormedRequest}
 use Rattle.calls.specs.Results as wanted
@@ -51,7 +51,7 @@ key_kept r h = record {
 }
 
 pub kept : (q : Request) → FormedRequest q → Keeps q (outgoing_of q)
-unfolding outgoing_of if◌then◌else◌
+unfolding outgoing_of in_case◌then◌else◌
 kept q h =
     by_test (eqb q.count 2)
     (λ p.
@@ -84,7 +84,7 @@ key_written us e q r = record {
 }
 
 iv_written : (q : Request) → q.kind ≤ 2 → WritesIv q (outgoing_of q) q.kind (iv_for q)
-unfolding iv_for if◌then◌else◌
+unfolding iv_for in_case◌then◌else◌
 iv_written q h =
     by_test (eqb q.kind 1) (λ p. of (eqb-true q.kind 1 p) (rw p wanted.WritesIv.plain)) λ p.
     by_test (eqb q.kind 2) (λ r. of (eqb-true q.kind 2 r) (rw (p, r) wanted.WritesIv.enciphered)) λ r.

@@ -23,7 +23,7 @@ use Rattle.partner.specs.declared.DataKey.{DataKey}
 use Rattle.partner.specs.declared.KeySet.{KeySet}
 use Rattle.partner.specs.declared.Entry.{Entry}
 use Rattle.partner.specs.Entry.{filled, limit, keys_in, one_key, two_keys}
-use Rattle.calls.specs.Words.{if◌then◌else◌, any, some_has}
+use Rattle.calls.specs.Words.{in_case◌then◌else◌, any, some_has}
 use Rattle.calls.specs.Receive.{foreign, uneven, kds, brought_key, brought, iv_value, iv_of, bad_format, bad_mac}
 use Rattle.calls.specs.Receive.{bad_count}
 use Rattle.calls.specs.Good.{KdOf, first, second, Ours, in_clear, EvenOnlyUnmarked, BringsKey, Brings}
@@ -123,7 +123,7 @@ brings_only us e m set h =
 -- ---- IV and date
 
 pub iv_is : (set : KeySet) (w : Text) (n : ℕ) → iv_value (keys_in set) w ≡ some n → Iv set w n
-unfolding iv_value if◌then◌else◌
+unfolding iv_value in_case◌then◌else◌
 iv_is set [] n h = absurd (none_some n h)
 iv_is set (c ∷ w) n h =
     by_test (is_run (code "F") 16 16 w)
@@ -137,7 +137,7 @@ iv_is set (c ∷ w) n h =
     (λ r. absurd (none_some n (rw r at h)))
 
 pub is_iv : (set : KeySet) (w : Text) (n : ℕ) → Iv set w n → iv_value (keys_in set) w ≡ some n
-unfolding iv_value if◌then◌else◌
+unfolding iv_value in_case◌then◌else◌
 is_iv set w n (plain v r) = rw r
 is_iv set w n (enciphered v r) = rw r
 

@@ -22,7 +22,7 @@ use Rattle.partner.specs.Changes.{loaded}
 use Rattle.partner.specs.Table.{Table, legal, into_free_slot}
 use Rattle.partner.proofs.Ruling.{not_0}
 use Rattle.calls.specs.declared.Request.{Request}
-use Rattle.calls.specs.Words.{if◌then◌else◌, any}
+use Rattle.calls.specs.Words.{in_case◌then◌else◌, any}
 use Rattle.calls.specs.Outcome.{Turn}
 use Rattle.calls.specs.Receive as steps
 use Rattle.calls.specs.Receive.{foreign, uneven, kds, brought, faults, bad_mac, is_waiting}
@@ -41,8 +41,8 @@ record Walks {A : Type 0} (answer : A → ℕ) (a : A) (ts : Order) : Type 0 whe
 
 -- a step that asks a test first, beside the order that has it first
 asks : {A : Type 0} {answer : A → ℕ} (b : Bool) (n : ℕ) (x y : A) {ts : Order} → eqb n 0 ≡ false → answer x ≡ n
-    → Walks answer y ts → Walks answer (if b then x else y) ((b, n) ∷ ts)
-unfolding if◌then◌else◌
+    → Walks answer y ts → Walks answer (in_case b then x else y) ((b, n) ∷ ts)
+unfolding in_case◌then◌else◌
 asks true n x y {ts = ts} z p q = record { is = p ∙ sym (firsts.holds_first n ts (not_0 n z)) }
 asks false n x y z p q = record { is = q.is }
 
@@ -126,7 +126,7 @@ perform_first t (about id a) =
 perform_first t (load id name top) = load_first t id name top
 
 is_first : (t : Table) (c : Call) → (run t c).outcome.answer ≡ first (order t c)
-unfolding run if◌then◌else◌
+unfolding run in_case◌then◌else◌
 is_first t c =
     by_test (legal t) (λ p. rw p (perform_first t c).is)
     (λ p. rw p (sym (firsts.holds_first 13 (in_order t c) (not_0 13 refl))))

@@ -23,7 +23,7 @@ use Rattle.partner.specs.Changes.{loaded}
 use Rattle.partner.proofs.Claims.{claims}
 use Rattle.partner.proofs.Ruling.{not_0}
 use Rattle.partner.specs.Table.{Table, legal, is_empty, identities, differs, find, put, into_free_slot, holding, empties}
-use Rattle.calls.specs.Words.{if◌then◌else◌}
+use Rattle.calls.specs.Words.{in_case◌then◌else◌}
 use Rattle.calls.specs.Outcome.{success, nothing, refusal}
 use Rattle.calls.specs.Calls.{Call, receive, about, build_ksm, build_rsi, give_up, load, remove, ask, refuse, start}
 use Rattle.calls.specs.Calls.{entry_of, at_partner, bad_identity, loading, after_load}
@@ -80,12 +80,12 @@ same_table t id e k = λ j. record {
 
 gone : (t : Table) (id : Text) (e : Entry) → legal t ≡ true → entry_of id t ≡ some e
     → ((run t (about id remove)).outcome ≡ success [] nothing) × (entry_of id (run t (about id remove)).table ≡ none)
-unfolding run perform at_partner if◌then◌else◌
+unfolding run perform at_partner in_case◌then◌else◌
 gone t id e l k = rw (l, k) (refl, emptied_after t id e l (entry_held t id e k))
 
 is_found : (t : Table) (id : Text) (e : Entry) → legal t ≡ true → entry_of id t ≡ some e
     → run t (about id ask) ≡ record { outcome = success [] nothing; table = t }
-unfolding run perform at_partner if◌then◌else◌
+unfolding run perform at_partner in_case◌then◌else◌
 is_found t id e l k =
     rw (l, k) (ap (λ (u : Table). record { outcome = success [] nothing; table = u }) (same_table t id e k))
 
@@ -179,7 +179,7 @@ module _ (t : Table) (id name : Text) (top : Top) (l : legal t ≡ true) where
             (rw (l, good_identity t id g, n, o, none_free (loaded (name_of id) (name_of name) top) t.slots f))
 
         place_way : run t (load id name top) ≡ after_load t (into_free_slot (loaded (name_of id) (name_of name) top) t.slots)
-        unfolding run perform loading if◌then◌else◌
+        unfolding run perform loading in_case◌then◌else◌
         place_way = rw (l, good_identity t id g, n, o)
 
         top_back : (k : Top) → top_of (loaded (name_of id) (name_of name) k).top ≡ k

@@ -26,7 +26,7 @@ use Rattle.partner.proofs.Keeping.{rules}
 use Rattle.partner.proofs.Claims.{claims}
 use Rattle.calls.specs.declared.KeyRequest.{KeyRequest}
 use Rattle.calls.specs.declared.Request.{Request}
-use Rattle.calls.specs.Words.{if◌then◌else◌}
+use Rattle.calls.specs.Words.{in_case◌then◌else◌}
 use Rattle.calls.specs.Build.{used, bad_key, bad_keys, malformed, wants_idk1, wants_idk2, wants_nos}
 use Rattle.calls.specs.Build.{outgoing_key, outgoing_of, asked, kd_for, iv_for, ksm_body}
 use Rattle.calls.proofs.Tests.{or_split, by_case, by_test}
@@ -40,7 +40,7 @@ pub data Keyed (q : Request) : Type 0 where
       → Keyed q
 
 pub keyed : (q : Request) → bad_keys (used q) ≡ false → Keyed q
-unfolding used bad_keys if◌then◌else◌
+unfolding used bad_keys in_case◌then◌else◌
 keyed q h =
     by_test (eqb q.count 1) (λ p. one p (rw p at h)) λ p.
     by_test (eqb q.count 2)
@@ -110,7 +110,7 @@ outgoing_named k h =
 
 -- a set of one key or of two
 pub outgoing_formed : (q : Request) → Keyed q → keys_formed (outgoing_of q) ≡ true
-unfolding outgoing_of if◌then◌else◌
+unfolding outgoing_of in_case◌then◌else◌
 outgoing_formed q (one p h) =
     rw (not_two q p) (claims.one_key_is_formed (outgoing_key q.first) (outgoing_named q.first h))
 outgoing_formed q (two p r h i) =

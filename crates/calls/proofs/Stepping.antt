@@ -19,7 +19,7 @@ use Rattle.partner.specs.Changes.{with_receiving, with_sending, accepted, issued
 use Rattle.partner.proofs.Keeping.{rules, risen_below}
 use Rattle.partner.specs.Table.{Table, legal}
 use Rattle.calls.specs.declared.Request.{Request}
-use Rattle.calls.specs.Words.{if◌then◌else◌, any}
+use Rattle.calls.specs.Words.{in_case◌then◌else◌, any}
 use Rattle.calls.specs.Orders.{by_class as order_of, by_act}
 use Rattle.calls.specs.Outcome.{success, refusal, done, keys, confirmation, service, failure}
 use Rattle.calls.specs.Receive as by_class
@@ -218,7 +218,7 @@ module _ (t : Table) (id : Text) (e : Entry) (l : legal t ≡ true) (k : entry_o
       ap (λ (a : After). a.outcome) (is_refused t (about id give_up) 5 refl (rw (l, k, waits_not e h)))
 
   pub give_up_so : e.sending.phase ≡ waiting → Breaks id e e.sending.next (run t (about id give_up))
-  unfolding run perform at_partner building.give_up given_up broken_at if◌then◌else◌
+  unfolding run perform at_partner building.give_up given_up broken_at in_case◌then◌else◌
   give_up_so w =
       rw (l, k, waits e w) (broken_with id e e.sending.next _ refl refl
       (turned_after t id e (with_sending e (given_up e.sending)) (entry_held t id e k) refl))

@@ -16,7 +16,7 @@ use Rattle.partner.specs.Legal as partner
 use Rattle.partner.proofs.Naming.{filled_name}
 use Rattle.partner.proofs.Claims.{claims}
 use Rattle.partner.specs.Table.{Table, slots_legal, identities, differs, apart, find, put, legal}
-use Rattle.calls.specs.Words.{if◌then◌else◌}
+use Rattle.calls.specs.Words.{in_case◌then◌else◌}
 use Rattle.calls.specs.Outcome.{Turn}
 use Rattle.calls.specs.Calls.{After, entry_of}
 use Rattle.partner.specs.Table.{holding}
@@ -60,7 +60,7 @@ held t id e n f =
     record { name = n; found = f; identity = i; bare_identity = ap bare i ∙ claims.bare_after_filled id n }
 
 pub entry_held : (t : Table) (id : Text) (e : Entry) → entry_of id t ≡ some e → Held t id e
-unfolding if◌then◌else◌
+unfolding in_case◌then◌else◌
 entry_held t id e h =
     by_test (is_name id) (λ q. held t id e q (rw q at h)) (λ q. absurd (none_some e (rw q at h)))
 

@@ -2,7 +2,7 @@
 use mathlib.Core.Path.{◌≡◌, refl, sym}
 use mathlib.Core.Bool.{Bool, true, false, ◌&&◌, ◌||◌, true≢false}
 use mathlib.Core.Option.{Option, none, some}
-use Rattle.calls.specs.Words.{if◌then◌else◌}
+use Rattle.calls.specs.Words.{in_case◌then◌else◌}
 
 -- no test both holds and fails
 pub never : {A : Type 0} (b : Bool) → b ≡ true → b ≡ false → A
@@ -22,18 +22,18 @@ and_join a b p q = rw (p, q)
 
 -- two cases of a step
 pub by_case : {A : Type 0} (P : A → Type 0) (b : Bool) (x y : A) → (b ≡ true → P x) → (b ≡ false → P y)
-    → P (if b then x else y)
-unfolding if◌then◌else◌
+    → P (in_case b then x else y)
+unfolding in_case◌then◌else◌
 by_case P true x y f g = f refl
 by_case P false x y f g = g refl
 
-pub if_false : {A : Type 0} (b : Bool) (x y : A) → b ≡ false → (if b then x else y) ≡ y
-unfolding if◌then◌else◌
+pub if_false : {A : Type 0} (b : Bool) (x y : A) → b ≡ false → (in_case b then x else y) ≡ y
+unfolding in_case◌then◌else◌
 if_false true x y e = absurd (true≢false e)
 if_false false x y e = refl
 
-pub if_true : {A : Type 0} (b : Bool) (x y : A) → b ≡ true → (if b then x else y) ≡ x
-unfolding if◌then◌else◌
+pub if_true : {A : Type 0} (b : Bool) (x y : A) → b ≡ true → (in_case b then x else y) ≡ x
+unfolding in_case◌then◌else◌
 if_true true x y e = refl
 if_true false x y e = absurd (true≢false (sym e))
 

@@ -22,7 +22,7 @@ use Rattle.partner.specs.Legal.{is_filled}
 use Rattle.partner.specs.Changes.{with_sending, issued, given_up}
 use Rattle.calls.specs.declared.KeyRequest.{KeyRequest}
 use Rattle.calls.specs.declared.Request.{Request}
-use Rattle.calls.specs.Words.{if◌then◌else◌, any}
+use Rattle.calls.specs.Words.{in_case◌then◌else◌, any}
 use Rattle.calls.specs.Outcome.{nothing, Turn, refused, done}
 use Rattle.calls.specs.Receive.{to_partner, is_waiting}
 
@@ -45,8 +45,8 @@ wants_nos q = eqb q.notarized 1
 -- the keys; of more than two none is used
 unfoldable pub used : Request → List KeyRequest
 used q =
-    if eqb q.count 1 then q.first ∷ [] else
-    if eqb q.count 2 then q.first ∷ q.second ∷ [] else []
+    in_case eqb q.count 1 then q.first ∷ [] else
+    in_case eqb q.count 2 then q.first ∷ q.second ∷ [] else []
 
 -- 11: a used key to be marked P is not of odd parity
 unfoldable pub not_odd : KeyRequest → Bool
@@ -80,7 +80,7 @@ outgoing_key k = record { key = k.key; name = name_of (given_name k) }
 
 unfoldable pub outgoing_of : Request → KeySet
 outgoing_of q =
-    if eqb q.count 2 then two_keys (outgoing_key q.first) (outgoing_key q.second) else
+    in_case eqb q.count 2 then two_keys (outgoing_key q.first) (outgoing_key q.second) else
     one_key (outgoing_key q.first)
 
 -- what a flag asks for
@@ -104,8 +104,8 @@ kd_for own e q k = record {
 -- the IV: P and the value, or E and the value enciphered
 unfoldable pub iv_for : Request → Option Text
 iv_for q =
-    if eqb q.kind 1 then some (ascii "P" ++ hex_text 16 q.iv) else
-    if eqb q.kind 2 then some (ascii "E" ++ hex_text 16 (conceal (keys_in (outgoing_of q)) q.iv)) else none
+    in_case eqb q.kind 1 then some (ascii "P" ++ hex_text 16 q.iv) else
+    in_case eqb q.kind 2 then some (ascii "E" ++ hex_text 16 (conceal (keys_in (outgoing_of q)) q.iv)) else none
 
 -- the message with the next send count and a MAC
 unfoldable pub ksm_body : Text → Entry → Request → ℕ → Body
@@ -131,10 +131,10 @@ ksm_text own e q =
 -- by one; outgoing keys set; phase 1
 unfoldable pub build_ksm : Text → Entry → Request → Turn
 build_ksm own e q =
-    if is_waiting e.sending then refused e 7 else
-    if eqb e.sending.next limit then refused e 8 else
-    if any not_odd (used q) then refused e 11 else
-    if malformed q then refused e 12 else
+    in_case is_waiting e.sending then refused e 7 else
+    in_case eqb e.sending.next limit then refused e 8 else
+    in_case any not_odd (used q) then refused e 11 else
+    in_case malformed q then refused e 12 else
     done (with_sending e (issued e.sending (outgoing_of q))) (ksm_text own e q) nothing
 
 -- build an RSI: 12 (no legal SVR); it changes nothing
@@ -147,4 +147,4 @@ build_rsi own e contents =
 
 -- give up: 5, else phase 3 and keys wiped
 unfoldable pub give_up : Entry → Turn
-give_up e = if not (is_waiting e.sending) then refused e 5 else done (with_sending e (given_up e.sending)) [] nothing
+give_up e = in_case not (is_waiting e.sending) then refused e 5 else done (with_sending e (given_up e.sending)) [] nothing

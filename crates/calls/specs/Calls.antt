@@ -11,7 +11,7 @@ use Rattle.partner.specs.Entry.{empty, filled, name_of}
 use Rattle.partner.specs.Changes.{loaded}
 use Rattle.partner.specs.Table.{Table, legal, identities, differs, find, put, into_free_slot, holding, started}
 use Rattle.calls.specs.declared.Request.{Request}
-use Rattle.calls.specs.Words.{if◌then◌else◌}
+use Rattle.calls.specs.Words.{in_case◌then◌else◌}
 use Rattle.calls.specs.Outcome.{Outcome, refusal, success, nothing, Turn, done}
 use Rattle.calls.specs.Receive as by_class
 use Rattle.calls.specs.Build as building
@@ -43,7 +43,7 @@ refuse t n = record { outcome = refusal n; table = t }
 
 -- its partner by name; a malformed identity is nobody's
 abbrev pub entry_of : Text → Table → Option Entry
-entry_of id t = if is_name id then find (filled id) t.slots else none
+entry_of id t = in_case is_name id then find (filled id) t.slots else none
 
 -- 3: partner not in the table
 abbrev pub after_turn : Table → Text → (Entry → Turn) → Option Entry → After
@@ -59,14 +59,14 @@ abbrev pub short : ℕ → Bool
 short room = ltb room 256
 
 abbrev pub with_room : Table → Bool → After → After
-with_room t too_short after = if too_short then refuse t 6 else after
+with_room t too_short after = in_case too_short then refuse t 6 else after
 
 -- ---- receive: 1 (no message of this paper), 2 (RCV is not us), 3, then by class
 
 unfoldable pub receiving : Table → Text → Option Reading → After
 receiving t text none = refuse t 1
 receiving t text (some r) =
-    if not (same r.rcv (bare t.own)) then refuse t 2 else
+    in_case not (same r.rcv (bare t.own)) then refuse t 2 else
     at_partner t r.org (λ e. by_class.receive (bare t.own) e text r.body)
 
 -- ---- load: 10 (identity malformed, our own, or taken), 12 (key name), 11 (top key), 9 (64 entries in use)
@@ -81,9 +81,9 @@ bad_identity t id = not (is_name id && differs (filled id) (t.own ∷ identities
 
 unfoldable pub loading : Table → Text → Text → Top → After
 loading t id name top =
-    if bad_identity t id then refuse t 10 else
-    if not (is_name name) then refuse t 12 else
-    if not (odd_top top) then refuse t 11 else
+    in_case bad_identity t id then refuse t 10 else
+    in_case not (is_name name) then refuse t 12 else
+    in_case not (odd_top top) then refuse t 11 else
     after_load t (into_free_slot (loaded (name_of id) (name_of name) top) t.slots)
 
 -- ---- an act: 6 where a reply may follow, 3, then its step; remove and ask for an entry have no answer of their own
@@ -117,8 +117,8 @@ perform t (load id name top) = loading t id name top
 
 -- any call that is lent a table tests 13 before all else
 unfoldable pub run : Table → Call → After
-run t c = if legal t then perform t c else refuse t 13
+run t c = in_case legal t then perform t c else refuse t 13
 
 -- start: 10; a table with our identity and 64 empty slots
 unfoldable pub start : Text → Option Table
-start own = if is_name own then some (started (name_of own)) else none
+start own = in_case is_name own then some (started (name_of own)) else none

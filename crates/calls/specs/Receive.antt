@@ -19,7 +19,7 @@ use Rattle.partner.specs.declared.Sending.{Sending}
 use Rattle.partner.specs.declared.Entry.{Entry}
 use Rattle.partner.specs.Entry.{limit, waiting, name_of, top_of, keys_in, one_key, two_keys}
 use Rattle.partner.specs.Changes.{with_receiving, with_sending, accepted, settled, given_up, failed}
-use Rattle.calls.specs.Words.{if◌then◌else◌, some_has, any}
+use Rattle.calls.specs.Words.{in_case◌then◌else◌, some_has, any}
 use Rattle.calls.specs.Outcome.{F, I, K, M, O, P, service, keys, confirmation, failure}
 use Rattle.calls.specs.Outcome.{Turn, complaint, refused, done}
 
@@ -87,9 +87,9 @@ brought own e m =
 unfoldable pub iv_value : List ℕ → Text → Option ℕ
 iv_value ks [] = none
 iv_value ks (c ∷ w) =
-    if not (is_run (code "F") 16 16 w) then none else
-    if eqb c (code "P") then some (numeral 16 0 w) else
-    if eqb c (code "E") then some (reveal ks (numeral 16 0 w)) else none
+    in_case not (is_run (code "F") 16 16 w) then none else
+    in_case eqb c (code "P") then some (numeral 16 0 w) else
+    in_case eqb c (code "E") then some (reveal ks (numeral 16 0 w)) else none
 
 -- F: IV not E or P and 16 hex digits, or EDK no date
 unfoldable pub bad_format : KeySet → Ksm → Bool
@@ -125,14 +125,14 @@ iv_of set m = elim m.iv [ none ↦ none | some w ↦ iv_value (keys_in set) w ]
 -- becomes count + 1, IV and date are returned, the reply is an RSM
 unfoldable pub judged : Text → Entry → Text → Ksm → KeySet → Turn
 judged own e text m set =
-    if not (eqb (faults e set text m) 0) then error own e (faults e set text m) (counts_for e m) else
+    in_case not (eqb (faults e set text m) 0) then error own e (faults e set text m) (counts_for e m) else
     done (with_receiving e (accepted m.ctp set)) (rsm_text own e set) (keys (iv_of set m) m.edk)
 
 -- I alone, K alone, then F, M and P together
 unfoldable pub receive_ksm : Text → Entry → Text → Ksm → Turn
 receive_ksm own e text m =
-    if any (foreign e) (kds m) then error own e I none else
-    if any (uneven own e m) (kds m) then error own e K none else
+    in_case any (foreign e) (kds m) then error own e I none else
+    in_case any (uneven own e m) (kds m) then error own e K none else
     judged own e text m (brought own e m)
 
 -- ---- an RSM: not waiting, 5; MAC differs under the outgoing keys, 4 with M, still waiting; otherwise 0, phase 2
@@ -142,8 +142,8 @@ is_waiting s = eqb s.phase waiting
 
 unfoldable pub receive_rsm : Text → Entry → Text → Rsm → Turn
 receive_rsm own e text m =
-    if not (is_waiting e.sending) then refused e 5 else
-    if bad_mac e.sending.outgoing text m.mac then error own e M none else
+    in_case not (is_waiting e.sending) then refused e 5 else
+    in_case bad_mac e.sending.outgoing text m.mac then error own e M none else
     done (with_sending e (settled e.sending)) [] confirmation
 
 -- ---- an ESM: not waiting, 5; otherwise 0: phase 3, keys wiped, next send the larger of itself and CTP
@@ -153,7 +153,7 @@ after_esm s m = elim m.ctp [ none ↦ given_up s | some x ↦ failed s x ]
 
 unfoldable pub receive_esm : Entry → Esm → Turn
 receive_esm e m =
-    if not (is_waiting e.sending) then refused e 5 else
+    in_case not (is_waiting e.sending) then refused e 5 else
     done (with_sending e (after_esm e.sending m)) [] (failure m.erf)
 
 -- ---- by class; an RSI: 0, the service wanted is returned; an option: 4 with O

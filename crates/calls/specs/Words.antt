@@ -2,10 +2,10 @@
 use Rattle.std.specs.Prelude.{Bool, true, false, ◌||◌, List, [], ◌∷◌}
 use Rattle.std.proofs.Math.Option.{Option, none, some}
 
-infix 5 if◌then◌else◌
-unfoldable pub if◌then◌else◌ : {A : Type 0} → Bool → A → A → A
-if true then a else b = a
-if false then a else b = b
+infix 5 in_case◌then◌else◌
+unfoldable pub in_case◌then◌else◌ : {A : Type 0} → Bool → A → A → A
+in_case true then a else b = a
+in_case false then a else b = b
 
 -- what is there, and of that a test holds
 unfoldable pub some_has : {A : Type 0} → (A → Bool) → Option A → Bool

@@ -1,7 +1,7 @@
 -- The calls that write to a lent buffer, on the table of a legal image; and what they leave in the buffer.
 use mathlib.Core.Path.{◌≡◌, refl, sym, ap, ◌∙◌}
 use mathlib.Core.Bool.{Bool, true, false}
-use mathlib.Core.List.{[], ◌++◌}
+use mathlib.Core.List.{◌++◌}
 use mathlib.Core.Option.{Option, none, some}
 use Prim.Native.Nat.{ℕ, ◌<◌, ◌≤◌}
 use native.Mathlib.Omega.{arith}
@@ -18,7 +18,7 @@ use Rattle.partner.specs.Table.{Table, legal, started}
 use Rattle.image.specs.Image.{largest, decode, encode}
 use Rattle.image.specs.Results.{delivered, size_delivered}
 use Rattle.image.proofs.Buffers.{delivered_room, started_size}
-use Rattle.calls.specs.Words.{if◌then◌else◌}
+use Rattle.calls.specs.Words.{in_case◌then◌else◌}
 use Rattle.calls.specs.Outcome.{Outcome, nothing, refusal, success}
 use Rattle.calls.specs.Calls as calls
 use Rattle.calls.specs.Calls.{about, remove, load, After, refuse, entry_of, bad_identity, loading, perform, run}
@@ -46,25 +46,25 @@ module _ (image : Text) where
   load_none d room id name key = rw (load_over, d)
 
   module _ (t : Table) (d : decode image ≡ some t) (room : ℕ) where
-    pub ask_table : (id : Text) → ask_over image room id ≡ (if ltb room 256 then refusal 6 else body_of (entry_of id t))
+    pub ask_table : (id : Text) → ask_over image room id ≡ (in_case ltb room 256 then refusal 6 else body_of (entry_of id t))
     unfolding ask_over
     ask_table id = rw (ask_over, d)
 
     pub remove_table : (id : Text)
-        → remove_over image room id ≡ (if ltb room largest then refusal 6 else delivering (run t (about id remove)))
+        → remove_over image room id ≡ (in_case ltb room largest then refusal 6 else delivering (run t (about id remove)))
     unfolding remove_over
     remove_table id = rw (remove_over, d)
 
     pub load_table : (id name key : Text)
-        → load_over image room id name key ≡ (if ltb room largest then refusal 6 else load_with t id name (top_in key))
+        → load_over image room id name key ≡ (in_case ltb room largest then refusal 6 else load_with t id name (top_in key))
     unfolding load_over
     load_table id name key = rw (load_over, d)
 
 -- where the buffer is too short, and where it is not
-pub too_short : (room n : ℕ) (o : Outcome) → room < n → (if ltb room n then refusal 6 else o) ≡ refusal 6
+pub too_short : (room n : ℕ) (o : Outcome) → room < n → (in_case ltb room n then refusal 6 else o) ≡ refusal 6
 too_short room n o h = if_true (ltb room n) _ _ (lt-ltb room n h)
 
-pub long_enough : (room n : ℕ) (o : Outcome) → n ≤ room → (if ltb room n then refusal 6 else o) ≡ o
+pub long_enough : (room n : ℕ) (o : Outcome) → n ≤ room → (in_case ltb room n then refusal 6 else o) ≡ o
 long_enough room n o h = if_false (ltb room n) _ _ (le-ltb room n h)
 
 -- a refusal delivers nothing; what is done delivers the image
@@ -78,8 +78,8 @@ delivers a h = if_true (eqb a.outcome.answer 0) _ _ (ap (λ (n : ℕ). eqb n 0) 
 
 -- a key that is none is loaded as a key without a name is
 none_delivered : (t : Table) (b : Bool)
-    → delivering (if b then refuse t 10 else refuse t 12) ≡ (if b then refusal 10 else refusal 12)
-unfolding delivering if◌then◌else◌
+    → delivering (in_case b then refuse t 10 else refuse t 12) ≡ (in_case b then refusal 10 else refusal 12)
+unfolding delivering in_case◌then◌else◌
 none_delivered t true = refl
 none_delivered t false = refl
 
@@ -89,7 +89,7 @@ unfolding load_with run perform loading
 load_with_is t l id name (some top) = refl
 load_with_is t l id name none =
     sym (ap delivering (if_true (legal t) _ _ l
-    ∙ ap (λ (w : After). if bad_identity t id then refuse t 10 else w) (if_true true (refuse t 12) _ refl))
+    ∙ ap (λ (w : After). in_case bad_identity t id then refuse t 10 else w) (if_true true (refuse t 12) _ refl))
     ∙ none_delivered t (bad_identity t id))
 
 -- ---- start
@@ -100,12 +100,12 @@ module _ (own : Text) (room : ℕ) where
   start_short h = if_true (ltb room largest) _ _ (lt-ltb room largest h)
 
   pub start_malformed : largest ≤ room → is_name own ≡ false → start_over own room ≡ refusal 10
-  unfolding start_over calls.start if◌then◌else◌
+  unfolding start_over calls.start in_case◌then◌else◌
   start_malformed h n = rw (le-ltb room largest h, n)
 
   pub start_done : largest ≤ room → is_name own ≡ true
       → start_over own room ≡ success (encode (started (name_of own))) nothing
-  unfolding start_over calls.start if◌then◌else◌
+  unfolding start_over calls.start in_case◌then◌else◌
   start_done h n = rw (le-ltb room largest h, n)
 
   pub start_fits : largest ≤ room → length (encode (started (name_of own))) ≤ room

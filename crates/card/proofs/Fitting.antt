@@ -29,7 +29,7 @@ use Rattle.partner.proofs.Holding.{held_name_of, held_one, held_two, held_accept
 use Rattle.partner.proofs.Holding.{held_given_up, held_failed, held_with_sending, held_with_receiving}
 use Rattle.calls.specs.declared.KeyRequest.{KeyRequest}
 use Rattle.calls.specs.declared.Request.{Request}
-use Rattle.calls.specs.Words.{if◌then◌else◌}
+use Rattle.calls.specs.Words.{in_case◌then◌else◌}
 use Rattle.calls.specs.Outcome.{Turn, nothing, refused, done}
 use Rattle.calls.specs.Receive as by_class
 use Rattle.calls.specs.Receive.{to_partner, brought_key, brought, judged, receive_ksm, receive_rsm, receive_esm}
@@ -115,7 +115,7 @@ outgoing_key_held k f b = go (wants_idk1 k) (idk1_legal k b)
     go false l = record { key = f; name = held_name_of [] refl }
 
 outgoing_held : (q : Request) → Sized q → Keyed q → HeldSet (outgoing_of q)
-unfolding outgoing_of if◌then◌else◌
+unfolding outgoing_of in_case◌then◌else◌
 outgoing_held q s (one p a) =
     rw (not_two q p) (held_one (outgoing_key q.first) (outgoing_key_held q.first s.first a))
 outgoing_held q s (two p r a b) =

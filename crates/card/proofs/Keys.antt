@@ -18,7 +18,7 @@ use Rattle.keying.specs.declared.Top.{Top}
 use Rattle.keying.specs.declared.Top.TheVariants.{Single, Pair}
 use Rattle.csm.proofs.TextLaws.{none_some}
 use Rattle.partner.specs.Changes.{left_of, right_of}
-use Rattle.calls.specs.Words.{if◌then◌else◌}
+use Rattle.calls.specs.Words.{in_case◌then◌else◌}
 use Rattle.calls.proofs.Tests.{if_true, if_false}
 use Rattle.card.specs.Whole.{top_in}
 use Rattle.card.specs.Ways.{name_or_none, name_with}
@@ -52,12 +52,12 @@ eight s o h = omega (arith, number_fits s o h)
 
 pub top_fits : (key : Text) (top : Top) → all_octets key ≡ true → top_in key ≡ some top
     → (left_of top < 2 ^ 64) × (right_of top < 2 ^ 64)
-unfolding top_in if◌then◌else◌
+unfolding top_in in_case◌then◌else◌
 top_fits key top o h = go (eqb (length key) 8) refl (eqb (length key) 16) refl h
   where
     go : (a : Bool) → eqb (length key) 8 ≡ a → (b : Bool) → eqb (length key) 16 ≡ b
-        → (if a then some (Single (number key)) else
-        if b then some (Pair (number (take 8 key)) (number (drop 8 key))) else none) ≡ some top
+        → (in_case a then some (Single (number key)) else
+        in_case b then some (Pair (number (take 8 key)) (number (drop 8 key))) else none) ≡ some top
         → (left_of top < 2 ^ 64) × (right_of top < 2 ^ 64)
     go true p b q h =
         let k : Single (number key) ≡ top = cc in

@@ -20,7 +20,7 @@ use Rattle.partner.specs.Table.{Table, is_empty, identities}
 use Rattle.image.specs.Image.{largest, decode}
 use Rattle.image.proofs.Buffers.{started_as}
 use Rattle.image.proofs.Images.{rules}
-use Rattle.calls.specs.Words.{if◌then◌else◌}
+use Rattle.calls.specs.Words.{in_case◌then◌else◌}
 use Rattle.calls.specs.Outcome.{Outcome, nothing, refusal, success}
 use Rattle.calls.specs.Calls.{Call, After, receive, about, build_ksm, build_rsi, remove, load, refuse, run}
 use Rattle.calls.specs.Good.{GoodIdentity}
@@ -143,7 +143,7 @@ module _ (image : Text) (t : Table) (d : decode image ≡ some t) where
 -- ---- together
 
 pub orders : Orders
-unfolding top_in number if◌then◌else◌
+unfolding top_in number in_case◌then◌else◌
 orders = record {
   call_13 = thirteen;
   receive_6 = λ image t room text d h.

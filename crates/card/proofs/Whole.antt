@@ -10,7 +10,7 @@ use lib.ListN.{length, get_or, set}
 use lib.Seq.{get_or-set_same}
 use borrow.Author.Tests.{eqb-false, ne_eqb, not-false}
 use Rattle.octets.specs.Text.{Text, is_name}
-use Rattle.octets.specs.Part.{all_octets, found}
+use Rattle.octets.specs.Part.{all_octets}
 use Rattle.octets.proofs.Comparing.{both as and_true}
 use Rattle.keying.specs.declared.Top.{Top}
 use Rattle.keying.specs.Keys.{odd_top}
@@ -27,7 +27,7 @@ use Rattle.image.specs.Places.{slot_of, free_slot}
 use Rattle.image.proofs.Entries.{legal_full, empty_is}
 use Rattle.image.proofs.Images.{rules}
 use Rattle.image.proofs.Numbered.{slot_held, slot_found, free_found, load_slot_is, remove_slot_is}
-use Rattle.calls.specs.Outcome.{Outcome, Turn, nothing, refusal, success, refused}
+use Rattle.calls.specs.Outcome.{Outcome, Turn, nothing, refusal, success}
 use Rattle.calls.specs.Calls.{Call, After, about, ask, remove, load, refuse, entry_of, after_turn, emptied, after_load, loading, perform, run}
 use Rattle.calls.specs.Calls.{at_partner as at_partner_of}
 use Rattle.partner.proofs.Claims as entries

@@ -10,7 +10,7 @@ use Rattle.partner.specs.declared.Entry.{Entry}
 use Rattle.partner.specs.Record.{entry_bytes}
 use Rattle.partner.specs.Table.{Table}
 use Rattle.image.specs.Image.{largest, decode, encode}
-use Rattle.calls.specs.Words.{if◌then◌else◌}
+use Rattle.calls.specs.Words.{in_case◌then◌else◌}
 use Rattle.calls.specs.Outcome.{Outcome, nothing, refusal, success}
 use Rattle.calls.specs.Calls.{After, about, remove, load, entry_of, bad_identity, run, start}
 
@@ -26,7 +26,7 @@ unfoldable pub ask_over : Text → ℕ → Text → Outcome
 ask_over image room id =
     elim (decode image) [
       | none ↦ refusal 13
-      | some t ↦ if ltb room 256 then refusal 6 else body_of (entry_of id t)
+      | some t ↦ in_case ltb room 256 then refusal 6 else body_of (entry_of id t)
     ]
 
 -- ---- whole images: less room than the largest has is 6
@@ -34,22 +34,22 @@ ask_over image room id =
 -- start: 6, 10; then the image of the new table
 unfoldable pub start_over : Text → ℕ → Outcome
 start_over own room =
-    if ltb room largest then refusal 6 else
+    in_case ltb room largest then refusal 6 else
     elim (start own) [ none ↦ refusal 10 | some t ↦ success (encode t) nothing ]
 
 -- with 0 the image of the table after the call
 unfoldable pub delivering : After → Outcome
-delivering a = if eqb a.outcome.answer 0 then success (encode a.table) nothing else a.outcome
+delivering a = in_case eqb a.outcome.answer 0 then success (encode a.table) nothing else a.outcome
 
 -- a top key by its bytes, the high byte first: 8 a single key, 16 a pair, another number none
 unfoldable pub top_in : Text → Option Top
 top_in key =
-    if eqb (length key) 8 then some (Single (number key)) else
-    if eqb (length key) 16 then some (Pair (number (take 8 key)) (number (drop 8 key))) else none
+    in_case eqb (length key) 8 then some (Single (number key)) else
+    in_case eqb (length key) 16 then some (Pair (number (take 8 key)) (number (drop 8 key))) else none
 
 -- load: 10, 12, 11, 9; a key that is none is 12, as a bad key name
 unfoldable pub load_with : Table → Text → Text → Option Top → Outcome
-load_with t id name none = if bad_identity t id then refusal 10 else refusal 12
+load_with t id name none = in_case bad_identity t id then refusal 10 else refusal 12
 load_with t id name (some top) = delivering (run t (load id name top))
 
 -- 13, 6, then these
@@ -57,7 +57,7 @@ unfoldable pub load_over : Text → ℕ → Text → Text → Text → Outcome
 load_over image room id name key =
     elim (decode image) [
       | none ↦ refusal 13
-      | some t ↦ if ltb room largest then refusal 6 else load_with t id name (top_in key)
+      | some t ↦ in_case ltb room largest then refusal 6 else load_with t id name (top_in key)
     ]
 
 -- remove: 13, 6, 3
@@ -65,5 +65,5 @@ unfoldable pub remove_over : Text → ℕ → Text → Outcome
 remove_over image room id =
     elim (decode image) [
       | none ↦ refusal 13
-      | some t ↦ if ltb room largest then refusal 6 else delivering (run t (about id remove))
+      | some t ↦ in_case ltb room largest then refusal 6 else delivering (run t (about id remove))
     ]

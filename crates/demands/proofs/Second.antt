@@ -19,7 +19,7 @@ use Rattle.partner.specs.Table.{Table, legal, started}
 use Rattle.image.specs.Image.{largest, decode}
 use Rattle.image.proofs.Claims as stored
 use Rattle.calls.specs.declared.Request.{Request}
-use Rattle.calls.specs.Words.{if◌then◌else◌}
+use Rattle.calls.specs.Words.{in_case◌then◌else◌}
 use Rattle.calls.specs.Outcome.{Outcome, keys}
 use Rattle.calls.specs.Calls.{After, refuse, entry_of, perform, run}
 use Rattle.calls.specs.Calls as steps
@@ -146,7 +146,7 @@ receive_anywhere : (t : Table) (room other : ℕ) → 256 ≤ room → 256 ≤ o
     → run t (steps.receive room text) ≡ run t (steps.receive other text)
 unfolding run perform
 receive_anywhere t room other r o text =
-    ap (λ (a : After). if legal t then a else refuse t 13)
+    ap (λ (a : After). in_case legal t then a else refuse t 13)
     (if_false (ltb room 256) _ _ (le-ltb room 256 r) ∙ sym (if_false (ltb other 256) _ _ (le-ltb other 256 o)))
 
 -- what a report tells of an outcome

@@ -19,7 +19,7 @@ use Rattle.partner.proofs.Claims as partner
 use Rattle.partner.specs.Table.{Table, legal, put, holding}
 use Rattle.image.specs.Image.{decode, encode}
 use Rattle.image.proofs.Claims as stored
-use Rattle.calls.specs.Words.{if◌then◌else◌}
+use Rattle.calls.specs.Words.{in_case◌then◌else◌}
 use Rattle.calls.specs.Outcome.{Outcome, Turn, nothing, success, refused, done}
 use Rattle.calls.specs.Receive.{to_partner}
 use Rattle.calls.specs.Build as building
@@ -130,7 +130,7 @@ module _ (image buffer : Text) (t : Table) (octets : Bytes image) (is : decode i
         (λ _. omega (arith, reply_short t d))
 
     new_is : new_image (left (delivering (run t d)) image buffer) ≡ encode (run t d).table
-    unfolding new_image delivering left if◌then◌else◌
+    unfolding new_image delivering left in_case◌then◌else◌
     new_is =
         by_case (λ (o : Outcome). new_image (left o image buffer) ≡ encode (run t d).table)
         (eqb (run t d).outcome.answer 0) (success (encode (run t d).table) nothing) (run t d).outcome

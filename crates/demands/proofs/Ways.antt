@@ -18,7 +18,7 @@ use Rattle.partner.specs.Record.{entry_bytes}
 use Rattle.partner.specs.Table.{Table, legal, started}
 use Rattle.image.specs.Image.{largest, decode, encode}
 use Rattle.image.proofs.Claims as stored
-use Rattle.calls.specs.Words.{if◌then◌else◌}
+use Rattle.calls.specs.Words.{in_case◌then◌else◌}
 use Rattle.calls.specs.Outcome.{Outcome, nothing, refusal, success}
 use Rattle.calls.specs.Calls.{After, refuse, bad_identity, perform, run}
 use Rattle.calls.specs.Calls as steps
@@ -53,12 +53,12 @@ stepped image buffer c a = left (in_bytes c a) (image_by c image a) buffer
 -- 3 where there is nobody, else the record of the entry
 pub shown_nobody : (t : Table) (partner : Text) → legal t ≡ true → steps.entry_of partner t ≡ none
     → showing partner (run t (steps.about partner steps.ask)) ≡ refusal 3
-unfolding showing if◌then◌else◌
+unfolding showing in_case◌then◌else◌
 shown_nobody t partner lawful q = ap (showing partner) (refusals.nobody_to_show t partner lawful q)
 
 pub shown_entry : (t : Table) (partner : Text) (e : Entry) → legal t ≡ true → steps.entry_of partner t ≡ some e
     → showing partner (run t (steps.about partner steps.ask)) ≡ success (entry_bytes e) nothing
-unfolding showing if◌then◌else◌
+unfolding showing in_case◌then◌else◌
 shown_entry t partner e lawful q =
     ap (showing partner) (refusals.asked_is_found t partner e lawful q)
     ∙ ap (λ (o : Option Entry). success (record_of o) nothing) q
@@ -145,7 +145,7 @@ module _ (image buffer : Text) (t : Table) (h : decode image ≡ some t) where
 
   module _ (partner name key : Text) (room : largest ≤ length buffer) (none_there : top_in key ≡ none) where
     keyless : leaves image buffer (load partner name key)
-        ≡ left (if bad_identity t partner then refusal 10 else refusal 12) image buffer
+        ≡ left (in_case bad_identity t partner then refusal 10 else refusal 12) image buffer
     unfolding load_with
     keyless =
         load_is partner name key room
@@ -165,8 +165,8 @@ module _ (image buffer : Text) (t : Table) (h : decode image ≡ some t) where
 
     -- with a bad key name the steps answer so too
     nameless : (b : Bool) → bad_identity t partner ≡ b
-        → (if b then refuse t 10 else refuse t 12) ≡ run t (steps.load partner [] (Single 0))
-    unfolding run perform steps.loading if◌then◌else◌
+        → (in_case b then refuse t 10 else refuse t 12) ≡ run t (steps.load partner [] (Single 0))
+    unfolding run perform steps.loading in_case◌then◌else◌
     nameless true p = sym (if_true (legal t) _ _ lawful ∙ if_true (bad_identity t partner) _ _ p)
     nameless false p = sym (if_true (legal t) _ _ lawful ∙ if_false (bad_identity t partner) _ _ p)
 
@@ -174,7 +174,7 @@ module _ (image buffer : Text) (t : Table) (h : decode image ≡ some t) where
     apart e = ap (λ (a : After). a.outcome.answer) e
 
     pub no_key : GoodIdentity t partner → leaves image buffer (load partner name key) ≡ refused 12 image buffer
-    unfolding if◌then◌else◌
+    unfolding in_case◌then◌else◌
     no_key g = go (bad_identity t partner) refl
       where
         go : (b : Bool) → bad_identity t partner ≡ b
@@ -186,7 +186,7 @@ module _ (image buffer : Text) (t : Table) (h : decode image ≡ some t) where
 
     pub no_key_but_10 : (GoodIdentity t partner → ⊥)
         → leaves image buffer (load partner name key) ≡ refused 10 image buffer
-    unfolding if◌then◌else◌
+    unfolding in_case◌then◌else◌
     no_key_but_10 g = go (bad_identity t partner) refl
       where
         go : (b : Bool) → bad_identity t partner ≡ b
@@ -311,25 +311,25 @@ module _ (own out : Text) where
       ap (λ (o : Outcome). left o [] out) (if_true _ _ _ (lt-ltb (length out) largest r)) ∙ left_refusal 6 [] out
 
   started_by : largest ≤ length out → (b : Bool) → is_name own ≡ b
-      → start_leaves own out ≡ left (elim (if b then some (started (name_of own)) else none) as (λ x. Outcome) [
+      → start_leaves own out ≡ left (elim (in_case b then some (started (name_of own)) else none) as (λ x. Outcome) [
         | none ↦ refusal 10
         | some t ↦ success (encode t) nothing
       ]) [] out
   unfolding start_leaves start_over steps.start
   started_by r b p =
       ap (λ (o : Outcome). left o [] out) (if_false _ _ _ (le-ltb (length out) largest r)
-      ∙ ap {B = Outcome} (λ (b : Bool). elim (if b then some (started (name_of own)) else none) as (λ x. Outcome) [
+      ∙ ap {B = Outcome} (λ (b : Bool). elim (in_case b then some (started (name_of own)) else none) as (λ x. Outcome) [
         | none ↦ refusal 10
         | some t ↦ success (encode t) nothing
       ]) p)
 
   pub start_no_name : largest ≤ length out → is_name own ≡ false → start_leaves own out ≡ refused 10 [] out
-  unfolding if◌then◌else◌
+  unfolding in_case◌then◌else◌
   start_no_name r p = started_by r false p ∙ left_refusal 10 [] out
 
   pub start_done : largest ≤ length out → is_name own ≡ true
       → start_leaves own out ≡ left (success (encode (started (name_of own))) nothing) [] out
-  unfolding if◌then◌else◌
+  unfolding in_case◌then◌else◌
   start_done r p = started_by r true p
 
 -- a refusal, or the image of a new table

@@ -3,7 +3,7 @@
 use Rattle.std.specs.Prelude.{List, [], ℕ, eqb, length, take, drop}
 use Rattle.octets.specs.Text.{Text}
 use Rattle.octets.specs.Number.{number}
-use Rattle.calls.specs.Words.{if◌then◌else◌}
+use Rattle.calls.specs.Words.{in_case◌then◌else◌}
 use Rattle.calls.specs.Outcome.{Outcome}
 use Rattle.calls.specs.Calls as steps
 use Rattle.outcome.specs.Report.{report, replied}
@@ -71,7 +71,7 @@ put_out l = take (length_told l.report) l.buffer
 
 -- the new image, where the answer is 0
 unfoldable pub new_image : Left → Text
-new_image l = if eqb l.answer 0 then put_out l else l.image
+new_image l = in_case eqb l.answer 0 then put_out l else l.image
 
 -- the image that is kept, to be lent with the next call
 unfoldable pub kept : Call → Left → Text

@@ -10,7 +10,7 @@ use Rattle.partner.specs.Entry.{confirmed}
 use Rattle.partner.specs.Table.{Table}
 use Rattle.image.specs.Image.{decode}
 use Rattle.calls.specs.declared.Request.{Request}
-use Rattle.calls.specs.Words.{if◌then◌else◌}
+use Rattle.calls.specs.Words.{in_case◌then◌else◌}
 use Rattle.calls.specs.Receive.{brought}
 use Rattle.calls.specs.Results.{Keeps}
 use Rattle.card.specs.Whole.{top_in}
@@ -31,7 +31,7 @@ pub record Hosts : Type 0 where
 
 -- the count of a key message from that partner that the call accepted
 unfoldable pub counted : Text → Call → ℕ → List ℕ
-counted id (receive text) answer = if eqb answer 0 then count_from id (read text) else []
+counted id (receive text) answer = in_case eqb answer 0 then count_from id (read text) else []
 counted id (build_ksm partner request) answer = []
 counted id (build_rsi partner service) answer = []
 counted id (ask partner) answer = []

@@ -12,7 +12,7 @@ use Rattle.partner.specs.Entry.{confirmed}
 use Rattle.partner.specs.Record.{entry_in, entry_bytes}
 use Rattle.partner.specs.Table.{Table}
 use Rattle.image.specs.Image.{largest, decode}
-use Rattle.calls.specs.Words.{if◌then◌else◌}
+use Rattle.calls.specs.Words.{in_case◌then◌else◌}
 use Rattle.calls.specs.Outcome.{Outcome, Told, nothing, keys, success}
 use Rattle.calls.specs.Calls.{After, entry_of}
 use Rattle.calls.specs.Calls as steps
@@ -119,7 +119,7 @@ record_of (some e) = entry_bytes e
 -- with 0 the record of the partner's entry
 unfoldable pub showing : Text → After → Outcome
 showing partner a =
-    if eqb a.outcome.answer 0 then success (record_of (entry_of partner a.table)) nothing else a.outcome
+    in_case eqb a.outcome.answer 0 then success (record_of (entry_of partner a.table)) nothing else a.outcome
 
 -- what it gives in bytes: ask writes the record of the entry, load and remove the image of the table
 abbrev pub in_bytes : Call → After → Outcome

@@ -19,7 +19,7 @@ use Rattle.partner.specs.Entry.{filled}
 use Rattle.partner.specs.Legal as entry
 use Rattle.partner.proofs.Naming.{filled_filled, filled_same}
 use Rattle.partner.specs.Table.{Table, legal, put}
-use Rattle.calls.specs.Words.{if◌then◌else◌}
+use Rattle.calls.specs.Words.{in_case◌then◌else◌}
 use Rattle.calls.specs.Outcome.{Turn}
 use Rattle.calls.specs.Calls.{Call, receive, about, load, After, refuse}
 use Rattle.partner.specs.Table.{holding}
@@ -53,7 +53,7 @@ pub data Local (name : Text) (top : Top) (us other : Text) (l : List Text) (t : 
 
 -- a call that is refused accepts no count
 counted_none : (other : Text) (c : Call) (n : ℕ) → eqb n 0 ≡ false → counted other c n ≡ []
-unfolding counted if◌then◌else◌
+unfolding counted in_case◌then◌else◌
 counted_none other (receive room text) n h = rw h
 counted_none other (about to a) n h = refl
 counted_none other (load to key_name key) n h = refl

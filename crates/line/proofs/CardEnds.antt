@@ -25,7 +25,7 @@ use Rattle.partner.specs.Legal.{legal}
 use Rattle.partner.specs.Changes.{loaded}
 use Rattle.partner.proofs.Naming.{bare_filled}
 use Rattle.calls.specs.declared.Request.{Request}
-use Rattle.calls.specs.Words.{if◌then◌else◌, any}
+use Rattle.calls.specs.Words.{in_case◌then◌else◌, any}
 use Rattle.calls.specs.Receive.{rsm_body, brought}
 use Rattle.calls.specs.Build.{used, not_odd, malformed, outgoing_of}
 use Rattle.calls.specs.Build.{ksm_text}
@@ -73,7 +73,7 @@ module _ (a b name : Text) (top : Top) where
   unfoldable pub carried_by : Option Reading → Carried KeySet
   carried_by none = no_key_message
   carried_by (some r) =
-      if same r.rcv b then (if same r.org a then carried_in r.body else no_key_message) else no_key_message
+      in_case same r.rcv b then (in_case same r.org a then carried_in r.body else no_key_message) else no_key_message
 
   unfoldable pub called_by : Carried KeySet → Answer
   called_by (key_message n k) = answer (mac_under k)
@@ -89,7 +89,7 @@ module _ (a b name : Text) (top : Top) where
   unfoldable pub answer_by : Option Reading → Answer
   answer_by none = no_answer
   answer_by (some r) =
-      if same r.rcv a then (if same r.org b then answer_in r.body else no_answer) else no_answer
+      in_case same r.rcv a then (in_case same r.org b then answer_in r.body else no_answer) else no_answer
 
   -- a key message of A's to B that a request made
   pub record Genuine (t : Text) (n : ℕ) (k : KeySet) : Type 0 where
@@ -128,21 +128,21 @@ module _ (a b name : Text) (top : Top) where
   -- ---- texts by their readings
 
   pub carried_at : (body : Body) → carried_by (some (record { rcv = b; org = a; body = body })) ≡ carried_in body
-  unfolding carried_by if◌then◌else◌
+  unfolding carried_by in_case◌then◌else◌
   carried_at body = rw (same_refl b, same_refl a)
 
   pub answer_at : (body : Body) → answer_by (some (record { rcv = a; org = b; body = body })) ≡ answer_in body
-  unfolding answer_by if◌then◌else◌
+  unfolding answer_by in_case◌then◌else◌
   answer_at body = rw (same_refl a, same_refl b)
 
   pub carried_away : (to org : Text) (body : Body) → to ≢ b
       → carried_by (some (record { rcv = to; org = org; body = body })) ≡ no_key_message
-  unfolding carried_by if◌then◌else◌
+  unfolding carried_by in_case◌then◌else◌
   carried_away to org body h = rw (differs_same to b h)
 
   pub answer_away : (to org : Text) (body : Body) → to ≢ a
       → answer_by (some (record { rcv = to; org = org; body = body })) ≡ no_answer
-  unfolding answer_by if◌then◌else◌
+  unfolding answer_by in_case◌then◌else◌
   answer_away to org body h = rw (differs_same to a h)
 
   pub carried_plain : {body : Body} → Plain body → carried_in body ≡ no_key_message
@@ -163,7 +163,7 @@ module _ (a b name : Text) (top : Top) where
     pub keys : brought b (entry_for name top a) message ≡ k
 
   pub read_as : (t : Text) (n : ℕ) (k : KeySet) → carried_by (read t) ≡ key_message n k → ReadAs t n k
-  unfolding carried_by carried_in if◌then◌else◌
+  unfolding carried_by carried_in in_case◌then◌else◌
   read_as t n k h =
       by_part (read t) (λ q. contra (rw q at h)) λ r q.
       by_test (same r.rcv b)

@@ -13,7 +13,7 @@ use Rattle.partner.specs.declared.Entry.{Entry}
 use Rattle.partner.specs.Entry.{empty, filled}
 use Rattle.partner.specs.Legal.{is_filled}
 use Rattle.partner.specs.Table.{Table, find}
-use Rattle.calls.specs.Words.{if◌then◌else◌}
+use Rattle.calls.specs.Words.{in_case◌then◌else◌}
 use Rattle.calls.specs.Calls.{load, After, entry_of, run, start}
 use Rattle.partner.specs.Table.{holding, empties}
 use Rattle.csm.proofs.TextLaws.{none_some, some_inj}
@@ -36,7 +36,7 @@ abbrev table_of : Text → Table
 table_of own = record { own = filled own; slots = empties 64 }
 
 pub started : (name : Text) (top : Top) (own other : Text) (t : Table) → start own ≡ some t → Fresh name top own other t
-unfolding start if◌then◌else◌
+unfolding start in_case◌then◌else◌
 started name top own other t h =
     by_test (is_name own)
     (λ q. let p : some (table_of own) ≡ some t = rw q at h in

@@ -13,7 +13,7 @@ use Rattle.partner.specs.declared.Entry.{Entry}
 use Rattle.partner.specs.Entry.{empty, filled, name_of}
 use Rattle.partner.specs.Changes.{loaded}
 use Rattle.partner.specs.Table.{Table, identities, differs, put, into_free_slot}
-use Rattle.calls.specs.Words.{if◌then◌else◌}
+use Rattle.calls.specs.Words.{in_case◌then◌else◌}
 use Rattle.calls.specs.Receive as by_class
 use Rattle.calls.specs.Calls.{build_ksm, build_rsi, give_up, remove, ask, Call, receive, about, After}
 use Rattle.partner.specs.Table.{holding}
@@ -64,7 +64,7 @@ module _ (name : Text) (top : Top) (us other : Text) (l : List Text) (t : Table)
 
   -- any call of a card with this identity, by its way
   local : {c : Call} {y : After} → bare t.own ≡ us → Walk t c y → Asked c y → Fits c y
-  unfolding Allowed counted count_from if◌then◌else◌
+  unfolding Allowed counted count_from in_case◌then◌else◌
   local ours (stops c n k) may = idle name top us other l t c n k
   local ours (receives room text r e fine q u k) may =
       let x = by_class.receive (bare t.own) e text r.body in

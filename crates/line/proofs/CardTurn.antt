@@ -19,7 +19,7 @@ use Rattle.partner.specs.Entry.{limit, waiting, broken, no_keys, keys_in}
 use Rattle.partner.specs.Legal.{legal}
 use Rattle.partner.specs.Changes.{with_receiving, with_sending, accepted, issued, settled, given_up, failed}
 use Rattle.calls.specs.declared.Request.{Request}
-use Rattle.calls.specs.Words.{if◌then◌else◌, any}
+use Rattle.calls.specs.Words.{in_case◌then◌else◌, any}
 use Rattle.calls.specs.Outcome.{Outcome, Turn}
 use Rattle.calls.specs.Receive.{rsm_text, brought}
 use Rattle.calls.specs.Receive.{receive}
@@ -44,7 +44,7 @@ pub data Plain : Body → Type 0 where
 
 -- the counts that go with an answer
 abbrev pub counts : Body → Turn → List ℕ
-counts body turn = if eqb turn.outcome.answer 0 then count_in body else []
+counts body turn = in_case eqb turn.outcome.answer 0 then count_in body else []
 
 -- `Heard` holds of the text that was received
 pub data Event (us : Text) (e : Entry) (Heard : Text → Type 0) : Turn → List ℕ → Type 0 where
@@ -75,7 +75,7 @@ module _ (us : Text) (e : Entry) (Heard : Text → Type 0) (named : is_name us �
   module _ (text : Text) (heard : Heard text) where
     step_event : {b : Body} {r : Turn} → Step us e text b r → Carries (partner e) us b text
         → Event us e Heard r (counts b r)
-    unfolding count_in if◌then◌else◌ given_up failed
+    unfolding count_in in_case◌then◌else◌ given_up failed
     step_event (vain b) is = silent _ refl
     step_event (errs b n c k l) is = speaks _ _ (fault _) (error_written us e named lawful n c l)
     step_event (serves m o) is = silent _ refl

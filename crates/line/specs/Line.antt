@@ -15,7 +15,7 @@ use Rattle.partner.specs.Entry.{name_of, keys_in, confirmed}
 use Rattle.partner.specs.Changes.{loaded}
 use Rattle.partner.specs.Table.{Table}
 use Rattle.calls.specs.declared.Request.{Request}
-use Rattle.calls.specs.Words.{if◌then◌else◌}
+use Rattle.calls.specs.Words.{in_case◌then◌else◌}
 use Rattle.calls.specs.Receive.{rsm_body, brought}
 use Rattle.calls.specs.Calls.{Act, build_ksm, build_rsi, give_up, remove, ask, Call, receive, about, load, run, start, entry_of}
 
@@ -50,11 +50,11 @@ count_in (option c w) = []
 
 unfoldable pub count_from : Text → Option Reading → List ℕ
 count_from id none = []
-count_from id (some r) = if same r.org id then count_in r.body else []
+count_from id (some r) = in_case same r.org id then count_in r.body else []
 
 -- the count of a key message from that partner that the call accepted
 unfoldable pub counted : Text → Call → ℕ → List ℕ
-counted id (receive room text) answer = if eqb answer 0 then count_from id (read text) else []
+counted id (receive room text) answer = in_case eqb answer 0 then count_from id (read text) else []
 counted id (about to a) answer = []
 counted id (load to key_name key) answer = []
 

@@ -7,7 +7,7 @@ use Rattle.csm.specs.Message.{Reading, read}
 use Rattle.partner.specs.declared.Entry.{Entry}
 use Rattle.partner.specs.Legal.{legal}
 use Rattle.calls.specs.declared.Request.{Request}
-use Rattle.calls.specs.Words.{if◌then◌else◌}
+use Rattle.calls.specs.Words.{in_case◌then◌else◌}
 use Rattle.calls.specs.Outcome.{Turn, refused}
 use Rattle.calls.specs.Receive as by_class
 use Rattle.calls.specs.Build as building
@@ -24,8 +24,8 @@ pub record Ready (own : Text) (e : Entry) (room : ℕ) : Type 0 where
 -- 13, then 6, then the turn
 unfoldable pub guarded : Text → Entry → ℕ → Turn → Turn
 guarded own e room turn =
-    if not (sound own e) then refused e 13 else
-    if ltb room 256 then refused e 6 else turn
+    in_case not (sound own e) then refused e 13 else
+    in_case ltb room 256 then refused e 6 else turn
 
 -- 1: text not a message of this paper
 unfoldable pub receive_read : Text → Entry → Text → Option Reading → Turn

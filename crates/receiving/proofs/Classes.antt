@@ -19,7 +19,7 @@ use Rattle.reader.proofs.SeenBack.{ReadAs, option_as, rsi_of, option_of, nothing
 use Rattle.partner.specs.declared.Entry.{Entry}
 use Rattle.calls.specs.Outcome.{O, Turn, refused, done, service}
 use Rattle.calls.specs.Receive.{error, receive, receive_ksm, receive_rsm, receive_esm}
-use Rattle.calls.specs.Words.{if◌then◌else◌}
+use Rattle.calls.specs.Words.{in_case◌then◌else◌}
 use Rattle.outcome.specs.Report.{replied}
 use Rattle.outcome.specs.Acts as acts
 use Rattle.outcome.specs.Acts.{sound, guarded, receive_read}
@@ -92,15 +92,15 @@ unreplied t u l k h = ap (λ (w : Text). w ++ drop (length w) l) (sym k) ∙ rep
 module _ (own : Text) (e : Entry) (room : ℕ) (t : Text) where
   -- 13
   pub unsound : sound own e ≡ false → refused e 13 ≡ acts.receive own e room t
-  unfolding acts.receive guarded if◌then◌else◌
+  unfolding acts.receive guarded in_case◌then◌else◌
   unsound h = rw h
 
   -- 6
   pub no_room : sound own e ≡ true → room < 256 → refused e 6 ≡ acts.receive own e room t
-  unfolding acts.receive guarded if◌then◌else◌
+  unfolding acts.receive guarded in_case◌then◌else◌
   no_room h r = rw (h, lt-ltb room 256 r)
 
   -- neither
   pub in_room : sound own e ≡ true → 256 ≤ room → receive_read own e t (read t) ≡ acts.receive own e room t
-  unfolding acts.receive guarded if◌then◌else◌
+  unfolding acts.receive guarded in_case◌then◌else◌
   in_room h r = rw (h, le-ltb room 256 r)

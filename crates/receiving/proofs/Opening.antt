@@ -14,7 +14,7 @@ use Rattle.reader.specs.declared.Ksm as reader
 use Rattle.partner.specs.declared.Entry.{Entry}
 use Rattle.partner.specs.declared.DataKey.{DataKey}
 use Rattle.partner.specs.Entry.{name_of, one_key, two_keys}
-use Rattle.calls.specs.Words.{if◌then◌else◌, any}
+use Rattle.calls.specs.Words.{in_case◌then◌else◌, any}
 use Rattle.calls.specs.Outcome.{I, K}
 use Rattle.calls.specs.Receive.{kds, foreign, deciphered, uneven, brought}
 use Rattle.receiving.specs.declared.keys.Opened.TheVariants.{Keys, Error}
@@ -50,18 +50,18 @@ any_two f m k h s = rw (h, s) (last (f k))
 module _ (own : Text) (e : Entry) (m : Ksm) where
   -- I
   pub opened_foreign : any_foreign e m ≡ true → Error I ≡ opened own e m
-  unfolding opened if◌then◌else◌
+  unfolding opened in_case◌then◌else◌
   opened_foreign h = rw h
 
   -- K
   pub opened_uneven : any_foreign e m ≡ false → any (uneven own e m) (kds m) ≡ true → Error K ≡ opened own e m
-  unfolding opened if◌then◌else◌
+  unfolding opened in_case◌then◌else◌
   opened_uneven h u = rw (h, u)
 
   -- the keys
   pub opened_keys : any_foreign e m ≡ false → any (uneven own e m) (kds m) ≡ false
       → Keys (deciphered own e m m.kd) (second_key own e m) ≡ opened own e m
-  unfolding opened if◌then◌else◌
+  unfolding opened in_case◌then◌else◌
   opened_keys h u = rw (h, u)
 
   -- the keys that were handed on form the set that the message brings

@@ -15,7 +15,7 @@ use Rattle.partner.specs.Entry.{limit, keys_in}
 use Rattle.partner.specs.Changes.{with_receiving, with_sending, accepted, settled}
 use Rattle.partner.specs.Legal.{legal}
 use Rattle.partner.proofs.Keeping.{rules}
-use Rattle.calls.specs.Words.{if◌then◌else◌, any}
+use Rattle.calls.specs.Words.{in_case◌then◌else◌, any}
 use Rattle.calls.specs.Outcome.{I, K, M, Turn, refused, done, keys, confirmation, failure}
 use Rattle.calls.specs.Receive as steps
 use Rattle.calls.specs.Receive.{kds, uneven, deciphered, brought, error, esm_body, rsm_text, iv_of}
@@ -41,11 +41,11 @@ module _ (own : Text) (e : Entry) (text : Text) (m : Ksm) where
 
   -- where the stage refuses, so do the steps
   pub unopened : (n : ℕ) → opened own e m ≡ opening.Error n → Unopened n
-  unfolding opened receive_ksm if◌then◌else◌
+  unfolding opened receive_ksm in_case◌then◌else◌
   unopened n h = go (any_foreign e m) (any (uneven own e m) (kds m)) refl refl h
     where
       go : (a b : Bool) → any_foreign e m ≡ a → any (uneven own e m) (kds m) ≡ b
-          → (if a then opening.Error I else if b then opening.Error K else
+          → (in_case a then opening.Error I else in_case b then opening.Error K else
           opening.Keys (deciphered own e m m.kd) (second_key own e m))
           ≡ opening.Error n
           → Unopened n
@@ -67,11 +67,11 @@ module _ (own : Text) (e : Entry) (text : Text) (m : Ksm) where
 
   -- where it hands keys on, the steps judge them
   pub opens : (a b : ℕ) → opened own e m ≡ opening.Keys a b → Opens a b
-  unfolding opened receive_ksm if◌then◌else◌
+  unfolding opened receive_ksm in_case◌then◌else◌
   opens a b h = go (any_foreign e m) (any (uneven own e m) (kds m)) refl refl h
     where
       go : (x y : Bool) → any_foreign e m ≡ x → any (uneven own e m) (kds m) ≡ y
-          → (if x then opening.Error I else if y then opening.Error K else
+          → (in_case x then opening.Error I else in_case y then opening.Error K else
           opening.Keys (deciphered own e m m.kd) (second_key own e m))
           ≡ opening.Keys a b
           → Opens a b
@@ -86,7 +86,7 @@ module _ (own : Text) (e : Entry) (text : Text) (m : Ksm) where
       pub turn : error own e (faults e set text m) (counts_for e m) ≡ steps.judged own e text m set
 
     pub misjudged : legal e ≡ true → within 1 limit m.ctp ≡ true → (faults e set text m ≡ 0 → ⊥) → Misjudged
-    unfolding steps.judged faults if◌then◌else◌
+    unfolding steps.judged faults in_case◌then◌else◌
     misjudged l c z =
         let q = ap not (ne_eqb (faults e set text m) 0 z) in record {
           lawful = letters_legal (bad_format set m) (bad_mac set text m.mac) (bad_count e.receiving.expected m.ctp)
@@ -98,7 +98,7 @@ module _ (own : Text) (e : Entry) (text : Text) (m : Ksm) where
     pub accepts : faults e set text m ≡ 0
         → done (with_receiving e (accepted m.ctp set)) (rsm_text own e set) (keys (iv_of set m) m.edk)
         ≡ steps.judged own e text m set
-    unfolding steps.judged if◌then◌else◌
+    unfolding steps.judged in_case◌then◌else◌
     accepts z = rw (eq-eqb (faults e set text m) 0 z)
 
 -- the counts of an ESM for P
@@ -115,32 +115,32 @@ counts_same e m = go (bad_count e.receiving.expected m.ctp)
 module _ (own : Text) (e : Entry) (text : Text) (m : Rsm) where
   -- not waiting: 5
   pub rsm_idle : is_waiting e.sending ≡ false → refused e 5 ≡ receive_rsm own e text m
-  unfolding receive_rsm if◌then◌else◌
+  unfolding receive_rsm in_case◌then◌else◌
   rsm_idle h = rw h
 
   -- the MAC differs: 4 with M
   pub rsm_bad : is_waiting e.sending ≡ true → stages.bad_mac (keys_in e.sending.outgoing) text m.mac ≡ true
       → error own e M none ≡ receive_rsm own e text m
-  unfolding receive_rsm if◌then◌else◌ bad_mac stages.bad_mac
+  unfolding receive_rsm in_case◌then◌else◌ bad_mac stages.bad_mac
   rsm_bad h b = rw (h, b)
 
   -- otherwise phase 2
   pub rsm_good : is_waiting e.sending ≡ true → stages.bad_mac (keys_in e.sending.outgoing) text m.mac ≡ false
       → done (with_sending e (settled e.sending)) [] confirmation ≡ receive_rsm own e text m
-  unfolding receive_rsm if◌then◌else◌ bad_mac stages.bad_mac
+  unfolding receive_rsm in_case◌then◌else◌ bad_mac stages.bad_mac
   rsm_good h b = rw (h, b)
 
 -- ---- an ESM
 
 -- not waiting: 5
 pub esm_idle : (e : Entry) (m : Esm) → is_waiting e.sending ≡ false → refused e 5 ≡ receive_esm e m
-unfolding receive_esm if◌then◌else◌
+unfolding receive_esm in_case◌then◌else◌
 esm_idle e m h = rw h
 
 -- otherwise phase 3
 pub esm_breaks : (e : Entry) (m : Esm) → is_waiting e.sending ≡ true
     → done (with_sending e (after_esm e.sending m)) [] (failure m.erf) ≡ receive_esm e m
-unfolding receive_esm if◌then◌else◌
+unfolding receive_esm in_case◌then◌else◌
 esm_breaks e m h = rw h
 
 -- no ESM is ever answered

@@ -16,7 +16,7 @@ use Rattle.csm.proofs.WordTests.{hex_value}
 use Rattle.fields.specs.declared.Number.{Number}
 use Rattle.fields.specs.declared.Number.TheVariants as number
 use Rattle.fields.specs.Seen.{number_seen}
-use Rattle.calls.specs.Words.{if◌then◌else◌}
+use Rattle.calls.specs.Words.{in_case◌then◌else◌}
 use Rattle.calls.specs.Receive.{iv_value}
 use Rattle.receiving.specs.declared.judging.Value.TheVariants.{Is, Nothing}
 use Rattle.receiving.specs.Stages.{value_of}
@@ -62,21 +62,21 @@ module _ (ks : List ℕ) where
 
   -- nor one without 16 hex digits
   pub iv_bad : (w : Text) → 1 ≤ length w → is_run 70 16 16 (drop 1 w) ≡ false → Nothing ≡ value_of (iv_value ks w)
-  unfolding iv_value if◌then◌else◌
+  unfolding iv_value in_case◌then◌else◌
   iv_bad [] h d = absurd (omega arith)
   iv_bad (x ∷ w) h d = rw (iv_value, d)
 
   -- after P as it stands
   pub iv_plain : (w : Text) (n : ℕ) → 1 ≤ length w → Block (drop 1 w) n → get_or w 0 0 ≡ 80
       → Is n ≡ value_of (iv_value ks w)
-  unfolding iv_value if◌then◌else◌
+  unfolding iv_value in_case◌then◌else◌
   iv_plain [] n h b p = absurd (omega arith)
   iv_plain (x ∷ w) n h b p = rw (iv_value, b.digits, eq-eqb x 80 p, b.is)
 
   -- after E deciphered
   pub iv_hidden : (w : Text) (n : ℕ) → 1 ≤ length w → Block (drop 1 w) n → get_or w 0 0 ≡ 69
       → Is (reveal ks n) ≡ value_of (iv_value ks w)
-  unfolding iv_value if◌then◌else◌
+  unfolding iv_value in_case◌then◌else◌
   iv_hidden [] n h b p = absurd (omega arith)
   iv_hidden (x ∷ w) n h b p =
       let other : eqb x 80 ≡ false = ne_eqb x 80 (omega arith) in
@@ -85,6 +85,6 @@ module _ (ks : List ℕ) where
   -- after another character none
   pub iv_other : (w : Text) → 1 ≤ length w → is_run 70 16 16 (drop 1 w) ≡ true → (get_or w 0 0 ≡ 80 → ⊥)
       → (get_or w 0 0 ≡ 69 → ⊥) → Nothing ≡ value_of (iv_value ks w)
-  unfolding iv_value if◌then◌else◌
+  unfolding iv_value in_case◌then◌else◌
   iv_other [] h b p q = absurd (omega arith)
   iv_other (x ∷ w) h b p q = rw (iv_value, b, ne_eqb x 80 p, ne_eqb x 69 q)

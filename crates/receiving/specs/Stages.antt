@@ -21,7 +21,7 @@ use Rattle.partner.specs.declared.Entry.{Entry}
 use Rattle.partner.specs.Entry.{name_of, top_of, one_key, two_keys}
 use Rattle.partner.specs.Changes.{given_up, failed}
 use Rattle.calls.specs.declared.Date.{Date}
-use Rattle.calls.specs.Words.{if◌then◌else◌, some_has, any}
+use Rattle.calls.specs.Words.{in_case◌then◌else◌, some_has, any}
 use Rattle.calls.specs.Outcome.{I, K, success, keys}
 use Rattle.calls.specs.Receive.{kds, foreign, deciphered, uneven, bad_count, faults, iv_of}
 use Rattle.outcome.specs.declared.Report.{Report}
@@ -56,8 +56,8 @@ second_key own e m = elim m.second [ none ↦ 0 | some k ↦ deciphered own e m 
 -- I alone, then K alone; else the keys
 unfoldable pub opened : Text → Entry → Ksm → Opened
 opened own e m =
-    if any_foreign e m then opening.Error I else
-    if any (uneven own e m) (kds m) then opening.Error K else
+    in_case any_foreign e m then opening.Error I else
+    in_case any (uneven own e m) (kds m) then opening.Error K else
     opening.Keys (deciphered own e m m.kd) (second_key own e m)
 
 abbrev pub opened_letters : Opened → ℕ

@@ -8,7 +8,7 @@ use Rattle.octets.specs.Text.{Text, same, is_name}
 use Rattle.partner.specs.declared.Entry.{Entry}
 use Rattle.partner.specs.Entry.{filled}
 use Rattle.partner.specs.Table.{legal, find}
-use Rattle.calls.specs.Words.{if◌then◌else◌}
+use Rattle.calls.specs.Words.{in_case◌then◌else◌}
 use Rattle.calls.specs.Calls.{entry_of}
 use Rattle.calls.proofs.Tests.{if_true, if_false}
 use Rattle.sight.specs.declared.aims.Aim.{Aim}
@@ -59,6 +59,6 @@ asked_is own slots id = by_table (is_name own && legal (table own slots)) refl
 
     by_table : (b : Bool) → is_name own && legal (table own slots) ≡ b
         → shown s
-        ≡ (if is_name own && legal (table own slots) then shown_of (slot_of (filled id) slots) (entry_of id (table own slots)) else not_shown 13)
+        ≡ (in_case is_name own && legal (table own slots) then shown_of (slot_of (filled id) slots) (entry_of id (table own slots)) else not_shown 13)
     by_table true l = by_name (seen ∙ l) (is_name id) refl ∙ sym (if_true _ _ _ l)
     by_table false l = shown_13 s (seen ∙ l) ∙ sym (if_false _ _ _ l)

@@ -15,7 +15,7 @@ use Rattle.partner.proofs.Claims as entries
 use Rattle.partner.specs.Table.{Table, legal, AllHeld}
 use Rattle.image.specs.Image.{encode, decode}
 use Rattle.image.proofs.Claims as images
-use Rattle.calls.specs.Words.{if◌then◌else◌}
+use Rattle.calls.specs.Words.{in_case◌then◌else◌}
 use Rattle.calls.specs.Calls.{Call, run, refuse}
 use Rattle.calls.proofs.Tests.{if_true, if_false}
 use Rattle.calls.proofs.Tables.{legal_parts, own_name}
@@ -43,7 +43,7 @@ unfolding over_row run
 thirteen own slots c h = go (is_name own) refl
   where
     go : (b : Bool) → is_name own ≡ b
-        → (if is_name own then run (table own slots) c else refuse (table own slots) 13) ≡ refuse (table own slots) 13
+        → (in_case is_name own then run (table own slots) c else refuse (table own slots) 13) ≡ refuse (table own slots) 13
     go true n =
         if_true (is_name own) (run (table own slots) c) (refuse (table own slots) 13) n
         ∙ if_false (legal (table own slots)) _ _ (ap (λ (b : Bool). b && legal (table own slots)) (sym n) ∙ h)

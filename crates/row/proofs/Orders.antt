@@ -12,7 +12,7 @@ use Rattle.partner.specs.declared.Entry.{Entry}
 use Rattle.partner.specs.Entry.{filled}
 use Rattle.partner.specs.Table.{legal}
 use Rattle.image.specs.Image.{encode}
-use Rattle.calls.specs.Words.{if◌then◌else◌}
+use Rattle.calls.specs.Words.{in_case◌then◌else◌}
 use Rattle.calls.specs.Outcome.{refusal}
 use Rattle.calls.specs.Calls.{Call, After, receive, about, build_ksm, build_rsi, refuse, perform, run, start}
 use Rattle.calls.proofs.Tests.{if_true, if_false}
@@ -24,7 +24,7 @@ use Rattle.row.specs.Orders.{Orders}
 module _ (own : Text) (slots : List Entry) (lawful : is_name own && legal (table own slots) ≡ true) where
   -- a call that asks for room first
   no_room : (room : ℕ) (c : Call) (after : After)
-      → perform (table own slots) c ≡ (if ltb room 256 then refuse (table own slots) 6 else after)
+      → perform (table own slots) c ≡ (in_case ltb room 256 then refuse (table own slots) 6 else after)
       → room < 256 → (over_row own slots c).outcome ≡ refusal 6
   unfolding over_row run
   no_room room c after p h =

@@ -16,7 +16,7 @@ use Rattle.csm.proofs.TextLaws.{some_inj, none_some}
 use Rattle.partner.specs.declared.Entry.{Entry}
 use Rattle.partner.specs.Entry.{empty, name_of}
 use Rattle.partner.specs.Table.{Table, legal, empties, started}
-use Rattle.calls.specs.Words.{if◌then◌else◌}
+use Rattle.calls.specs.Words.{in_case◌then◌else◌}
 use Rattle.image.specs.Image.{encode, decode, table_in, slots_in, slot_in, record_length}
 use Rattle.calls.specs.Calls as every
 use Rattle.calls.proofs.Tests.{if_true, if_false}
@@ -68,7 +68,7 @@ start_is own row =
     ap (λ (n : ℕ). refilled n own row) (two (not (eqb (length row) 64)) (not (is_name own)) 10) ∙ by_length (eqb (length row) 64) refl
   where
     by_name : eqb (length row) 64 ≡ true → (b : Bool) → is_name own ≡ b
-        → refilled (cond (not b) 10 0) own row ≡ slots_or row (if is_name own then some (started (name_of own)) else none)
+        → refilled (cond (not b) 10 0) own row ≡ slots_or row (in_case is_name own then some (started (name_of own)) else none)
     by_name h true k =
         done_row own row h ∙ ap (slots_in 64) (short_name own k) ∙ none_stored 64
         ∙ ap (slots_or row) (sym (if_true (is_name own) (some (started (name_of own))) none k))
@@ -76,14 +76,14 @@ start_is own row =
 
     by_length : (b : Bool) → eqb (length row) 64 ≡ b
         → refilled (cond (not b) 13 (cond (not (is_name own)) 10 0)) own row
-        ≡ (if b then slots_or row (if is_name own then some (started (name_of own)) else none) else row)
+        ≡ (in_case b then slots_or row (in_case is_name own then some (started (name_of own)) else none) else row)
     by_length true h =
-        go (is_name own) refl ∙ sym (if_true true (slots_or row (if is_name own then some (started (name_of own)) else none)) row refl)
+        go (is_name own) refl ∙ sym (if_true true (slots_or row (in_case is_name own then some (started (name_of own)) else none)) row refl)
       where
         go : (b : Bool) → is_name own ≡ b → refilled (cond (not (is_name own)) 10 0) own row
-            ≡ slots_or row (if is_name own then some (started (name_of own)) else none)
+            ≡ slots_or row (in_case is_name own then some (started (name_of own)) else none)
         go b k = ap (λ (b : Bool). refilled (cond (not b) 10 0) own row) k ∙ by_name h b k
-    by_length false h = refused_row 13 own row refl ∙ sym (if_false false (slots_or row (if is_name own then some (started (name_of own)) else none)) row refl)
+    by_length false h = refused_row 13 own row refl ∙ sym (if_false false (slots_or row (in_case is_name own then some (started (name_of own)) else none)) row refl)
 
 -- image reading
 pub read_is : (image : Text) (row : List Entry) → refilled (read_answer image (length row)) image row ≡ read_row image row
@@ -99,6 +99,6 @@ read_is image row =
 
     by_length : (b : Bool) → eqb (length row) 64 ≡ b
         → refilled (cond (not b) 13 (cond (not (found (decode image))) 13 0)) image row
-        ≡ (if b then slots_or row (decode image) else row)
+        ≡ (in_case b then slots_or row (decode image) else row)
     by_length true h = by_table h (decode image) refl ∙ sym (if_true true (slots_or row (decode image)) row refl)
     by_length false h = refused_row 13 image row refl ∙ sym (if_false false (slots_or row (decode image)) row refl)

@@ -17,7 +17,7 @@ use Rattle.partner.specs.Entry as entries
 use Rattle.partner.proofs.Naming.{length_filled}
 use Rattle.partner.specs.Table.{legal}
 use Rattle.image.specs.Image.{encode, slots_bytes}
-use Rattle.calls.specs.Words.{if◌then◌else◌}
+use Rattle.calls.specs.Words.{in_case◌then◌else◌}
 use Rattle.calls.specs.Outcome.{Outcome, refusal, success, nothing}
 use Rattle.calls.proofs.Tests.{if_true, if_false}
 use Rattle.calls.proofs.Tables.{legal_parts}
@@ -75,7 +75,7 @@ module _ (own : Text) (slots : List Entry) (out : Text) where
 
   abbrev fitting : Outcome
   fitting =
-      if ltb (length out) (length (encode (table own slots))) then refusal 6 else success (encode (table own slots)) nothing
+      in_case ltb (length out) (length (encode (table own slots))) then refusal 6 else success (encode (table own slots)) nothing
 
   -- a legal row: 6, or the image
   by_room : row_legal own slots ≡ true → (b : Bool) → ltb (length out) (size slots) ≡ b

@@ -7,7 +7,7 @@ use Rattle.partner.specs.declared.Entry.{Entry}
 use Rattle.partner.specs.Entry.{empty, filled}
 use Rattle.partner.specs.Table.{Table}
 use Rattle.image.specs.Image.{encode, decode}
-use Rattle.calls.specs.Words.{if◌then◌else◌}
+use Rattle.calls.specs.Words.{in_case◌then◌else◌}
 use Rattle.calls.specs.Outcome.{Outcome, nothing, refusal, success}
 use Rattle.calls.specs.Calls as every
 use Rattle.sight.specs.declared.Found.{Found}
@@ -35,7 +35,7 @@ shown_of slot (some e) = record { answer = 0; slot = slot; entry = e }
 -- 13, then these
 unfoldable pub asked : Text → List Entry → Text → Found
 asked own slots id =
-    if row_legal own slots then shown_of (slot_of (filled id) slots) (every.entry_of id (table own slots)) else not_shown 13
+    in_case row_legal own slots then shown_of (slot_of (filled id) slots) (every.entry_of id (table own slots)) else not_shown 13
 
 -- ---- start and image reading
 
@@ -46,19 +46,19 @@ slots_or row (some t) = t.slots
 
 -- 64 empty slots; the row as it was where start is refused
 unfoldable pub start_row : Text → List Entry → List Entry
-start_row own row = if eqb (length row) 64 then slots_or row (every.start own) else row
+start_row own row = in_case eqb (length row) 64 then slots_or row (every.start own) else row
 
 -- the table that the image holds; the row as it was where it is refused
 unfoldable pub read_row : Text → List Entry → List Entry
-read_row image row = if eqb (length row) 64 then slots_or row (decode image) else row
+read_row image row = in_case eqb (length row) 64 then slots_or row (decode image) else row
 
 -- ---- image writing
 
 -- the table's image; 13 where our identity is no name or the table is not legal, 6 where the image does not fit
 unfoldable pub image_given : Text → List Entry → ℕ → Outcome
 image_given own slots room =
-    if not (row_legal own slots) then refusal 13
-    else (if ltb room (length (encode (table own slots))) then refusal 6 else success (encode (table own slots)) nothing)
+    in_case not (row_legal own slots) then refusal 13
+    else (in_case ltb room (length (encode (table own slots))) then refusal 6 else success (encode (table own slots)) nothing)
 
 -- ---- contracts: what a function gives and what it leaves of the lent row and buffer
 

@@ -4,7 +4,7 @@ use Rattle.octets.specs.Text.{Text, is_name}
 use Rattle.partner.specs.declared.Entry.{Entry}
 use Rattle.partner.specs.Entry.{filled}
 use Rattle.partner.specs.Table.{Table, legal}
-use Rattle.calls.specs.Words.{if◌then◌else◌}
+use Rattle.calls.specs.Words.{in_case◌then◌else◌}
 use Rattle.calls.specs.Calls as every
 
 -- the table of a row
@@ -18,4 +18,4 @@ row_legal own slots = is_name own && legal (table own slots)
 -- a call over a row; 13 where our identity is no name
 unfoldable pub over_row : Text → List Entry → every.Call → every.After
 over_row own slots c =
-    if is_name own then every.run (table own slots) c else every.refuse (table own slots) 13
+    in_case is_name own then every.run (table own slots) c else every.refuse (table own slots) 13

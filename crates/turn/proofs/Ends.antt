@@ -16,7 +16,7 @@ use Rattle.partner.specs.Entry.{filled}
 use Rattle.partner.specs.Legal as partner
 use Rattle.partner.proofs.Claims as entries
 use Rattle.partner.specs.Table.{Table, legal, find}
-use Rattle.calls.specs.Words.{if◌then◌else◌}
+use Rattle.calls.specs.Words.{in_case◌then◌else◌}
 use Rattle.calls.specs.Outcome.{Turn}
 use Rattle.calls.specs.Receive as by_class
 use Rattle.calls.specs.Calls as every
@@ -146,7 +146,7 @@ module _ (own : Text) (slots : List Entry) where
         known = ap (same r.rcv) ours
 
         rest : After
-        rest = if not (same r.rcv (bare t.own)) then refuse t 2 else every.at_partner t r.org w
+        rest = in_case not (same r.rcv (bare t.own)) then refuse t 2 else every.at_partner t r.org w
 
         by_rcv : (b : Bool) → same r.rcv own ≡ b
             → Sees own slots (with_room (cond (not (same r.rcv own)) (nobody own 2) (at_partner own r.org)) 256) s

@@ -16,7 +16,7 @@ use Rattle.partner.specs.Entry.{filled, name_of}
 use Rattle.partner.specs.Changes.{loaded}
 use Rattle.partner.proofs.Claims as entries
 use Rattle.partner.specs.Table.{is_empty, identities, differs, into_free_slot}
-use Rattle.calls.specs.Words.{if◌then◌else◌}
+use Rattle.calls.specs.Words.{in_case◌then◌else◌}
 use Rattle.calls.specs.Outcome.{Turn}
 use Rattle.calls.specs.Calls as every
 use Rattle.calls.specs.Calls.{After, refuse}
@@ -126,24 +126,24 @@ module _ (own : Text) (slots : List Entry) (s : Sight) (id name : Text) (top : T
       taken = unfit_is own id slots s (z.taken l refl)
 
       by_key : unfit a (glance s) ≡ false → is_name name ≡ true → (b : Bool) → odd_top top ≡ b
-          → Loads (if not (odd_top top) then refuse (t own slots) 11 else every.after_load (t own slots) (into_free_slot x slots))
+          → Loads (in_case not (odd_top top) then refuse (t own slots) 11 else every.after_load (t own slots) (into_free_slot x slots))
       by_key u n true o = subst Loads (sym (if_false (not (odd_top top)) _ _ (ap not o))) (placed u n o (first is_empty slots) refl)
       by_key u n false o =
           subst Loads (sym (if_true (not (odd_top top)) _ _ (ap not o)))
           (refused 11 (loads_11 a (glance s) (is_name name) (odd_top top) u n o) (λ z. absurd (omega arith)))
 
       by_name : unfit a (glance s) ≡ false → (b : Bool) → is_name name ≡ b
-          → Loads (if not (is_name name) then refuse (t own slots) 12 else
-          if not (odd_top top) then refuse (t own slots) 11 else every.after_load (t own slots) (into_free_slot x slots))
+          → Loads (in_case not (is_name name) then refuse (t own slots) 12 else
+          in_case not (odd_top top) then refuse (t own slots) 11 else every.after_load (t own slots) (into_free_slot x slots))
       by_name u true n = subst Loads (sym (if_false (not (is_name name)) _ _ (ap not n))) (by_key u n (odd_top top) refl)
       by_name u false n =
           subst Loads (sym (if_true (not (is_name name)) _ _ (ap not n)))
           (refused 12 (loads_12 a (glance s) (is_name name) (odd_top top) u n) (λ z. absurd (omega arith)))
 
       by_identity : (b : Bool) → unfit a (glance s) ≡ b
-          → Loads (if not (is_name id && differs (filled id) (filled own ∷ identities slots)) then refuse (t own slots) 10 else
-          if not (is_name name) then refuse (t own slots) 12 else
-          if not (odd_top top) then refuse (t own slots) 11 else every.after_load (t own slots) (into_free_slot x slots))
+          → Loads (in_case not (is_name id && differs (filled id) (filled own ∷ identities slots)) then refuse (t own slots) 10 else
+          in_case not (is_name name) then refuse (t own slots) 12 else
+          in_case not (odd_top top) then refuse (t own slots) 11 else every.after_load (t own slots) (into_free_slot x slots))
       by_identity true u =
           subst Loads (sym (if_true (not (is_name id && differs (filled id) (filled own ∷ identities slots))) _ _ (sym taken ∙ u)))
           (refused 10 (loads_10 a (glance s) (is_name name) (odd_top top) u) (λ z. absurd (omega arith)))

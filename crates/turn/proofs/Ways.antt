@@ -13,7 +13,7 @@ use Rattle.csm.specs.Message.{read}
 use Rattle.partner.specs.declared.Name.{Name}
 use Rattle.partner.specs.declared.Entry.{Entry}
 use Rattle.partner.specs.Table.{legal}
-use Rattle.calls.specs.Words.{if◌then◌else◌}
+use Rattle.calls.specs.Words.{in_case◌then◌else◌}
 use Rattle.calls.specs.Outcome.{Turn, refused}
 use Rattle.calls.specs.Build as building
 use Rattle.calls.specs.Calls as every
@@ -84,14 +84,14 @@ module _ (own : Text) (slots : List Entry) where
       refuses h = unlawful own slots (aim_of x own who text) s z x text room h
 
       by_table : is_name own ≡ true → (b : Bool) → legal (t own slots) ≡ b
-          → Gone (if legal (t own slots) then every.perform (t own slots) (call_of x room who text) else refuse (t own slots) 13)
+          → Gone (in_case legal (t own slots) then every.perform (t own slots) (call_of x room who text) else refuse (t own slots) 13)
       by_table n true h =
           subst Gone (sym (if_true (legal (t own slots)) _ _ h))
           (performed s x who text room n h (z.legal ∙ rw (n, h)) z)
       by_table n false h = subst Gone (sym (if_false (legal (t own slots)) _ _ h)) (refuses (rw (n, h)))
 
       by_name : (b : Bool) → is_name own ≡ b
-          → Gone (if is_name own then (if legal (t own slots) then every.perform (t own slots) (call_of x room who text) else refuse (t own slots) 13)
+          → Gone (in_case is_name own then (in_case legal (t own slots) then every.perform (t own slots) (call_of x room who text) else refuse (t own slots) 13)
           else refuse (t own slots) 13)
       by_name true n = subst Gone (sym (if_true (is_name own) _ _ n)) (by_table n (legal (t own slots)) refl)
       by_name false n = subst Gone (sym (if_false (is_name own) _ _ n)) (refuses (rw n))

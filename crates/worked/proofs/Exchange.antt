@@ -20,7 +20,7 @@ use Rattle.partner.specs.declared.Entry.{Entry}
 use Rattle.partner.specs.Entry.{filled, name_of, top_of, places, keys_in}
 use Rattle.partner.specs.Changes.{loaded}
 use Rattle.calls.specs.declared.Request.{Request}
-use Rattle.calls.specs.Words.{if◌then◌else◌}
+use Rattle.calls.specs.Words.{in_case◌then◌else◌}
 use Rattle.calls.specs.Receive.{rsm_text}
 use Rattle.calls.specs.Build.{outgoing_of, iv_for, ksm_body, ksm_text}
 use Rattle.worked.specs.Worked.{MILL, HARBOR}
@@ -50,7 +50,7 @@ pub record Exchanged (top : Top) (q : Request) (message reply : Text) : Type 0 w
 unfoldable pub computes : Unit {0}
 unfolding
     computes_cipher number first_block blocks_of chained offset first_half second_half add_characters notary notarizing working seal mac_key mac last_key conceal
-    print covered_part filled top_of places keys_in loaded if◌then◌else◌ rsm_text outgoing_of iv_for ksm_body ksm_text
+    print covered_part filled top_of places keys_in loaded in_case◌then◌else◌ rsm_text outgoing_of iv_for ksm_body ksm_text
 computes = tt
 
 pub under_a_single_key : Exchanged (Single 0x0123456789ABCDEF) (asking 0)

@@ -14,7 +14,7 @@ use Rattle.partner.specs.declared.Entry.{Entry}
 use Rattle.partner.specs.Entry.{waiting, confirmed, broken, no_keys, one_key}
 use Rattle.partner.specs.Changes.{failed}
 use Rattle.calls.specs.declared.Request.{Request}
-use Rattle.calls.specs.Words.{if◌then◌else◌}
+use Rattle.calls.specs.Words.{in_case◌then◌else◌}
 use Rattle.calls.specs.Outcome.{P, success, complaint, nothing, keys, confirmation, failure}
 use Rattle.calls.specs.Receive as by_class
 use Rattle.calls.specs.Calls.{receive, about, build_ksm, After, entry_of, run}
@@ -110,7 +110,7 @@ agreed_anew =
 
 -- MILL builds anew, HARBOR takes it and answers
 anew : Run broken_off agreed_anew
-unfolding texts counted Allowed if◌then◌else◌
+unfolding texts counted Allowed in_case◌then◌else◌
 anew =
     at_mill
     (state (mill 3 waiting new_keys) (harbor 3 new_keys) two_sent (new_rsm ∷ complained 2) (2 ∷ 1 ∷ []))
@@ -122,7 +122,7 @@ anew =
     (record { first = omega arith; second = omega arith }) begin)))
 
 pub late : LateError MILL HARBOR key_name pair both_started agreed_anew
-unfolding texts counted Allowed if◌then◌else◌
+unfolding texts counted Allowed in_case◌then◌else◌
 late = record {
   before = again 1;
   until_then =

@@ -12,7 +12,7 @@ use Rattle.partner.specs.declared.KeySet.{KeySet}
 use Rattle.partner.specs.declared.Entry.{Entry}
 use Rattle.partner.specs.Entry.{waiting, confirmed, broken, no_keys}
 use Rattle.partner.specs.Table.{Table}
-use Rattle.calls.specs.Words.{if◌then◌else◌}
+use Rattle.calls.specs.Words.{in_case◌then◌else◌}
 use Rattle.calls.specs.Calls.{Call, receive, about, build_ksm, give_up, load, remove, After, entry_of, run, start}
 use Rattle.line.specs.Line.{State, texts, count_in, count_from, counted, Allowed}
 use Rattle.line.specs.Line.{Reach, begin, step_a, step_b, Afresh, Distinct, Agreed}
@@ -35,7 +35,7 @@ abbrev pub both_started : State
 both_started = state (started MILL) (started HARBOR) [] [] []
 
 pub afresh : Afresh MILL HARBOR key_name pair both_started
-unfolding start if◌then◌else◌
+unfolding start in_case◌then◌else◌
 afresh = record {
   card_a = fresh.started key_name pair MILL HARBOR (started MILL) refl;
   card_b = fresh.started key_name pair HARBOR MILL (started HARBOR) refl;
@@ -101,7 +101,7 @@ built_run =
     (record { first = omega arith; second = omega arith }) loaded_run
 
 pub answered_run : Run both_started answered
-unfolding texts counted Allowed if◌then◌else◌
+unfolding texts counted Allowed in_case◌then◌else◌
 answered_run =
     rw count_of_first at
     (at_harbor (state (mill 2 waiting first_keys) (harbor 1 no_keys) (first_ksm ∷ []) [] []) (receive 256 first_ksm) _

@@ -1,5 +1,4 @@
 -- `card::aim` meets its contract: by our own identity, bare.
-use borrow.Author.Rules.{rules}
 use Rattle.card.proofs.aim.Goals as goal
 
 pub returns : goal.returns

@@ -1,5 +1,4 @@
 -- `card::aim_in` meets its contract: another room.
-use borrow.Author.Rules.{rules}
 use Rattle.card.proofs.aim_in.Goals as goal
 
 pub returns : goal.returns

@@ -15,7 +15,6 @@ use Rattle.card.specs.Ways.{aim}
 use Rattle.card.proofs.Delivering.{put_so}
 use Rattle.card.proofs.Roomed.{ask_all, ask_long, was_roomy}
 use Rattle.card.proofs.Ends.{refused_end, way_went, entry_is, found_as}
-use borrow.Author.Rules.{rules}
 use Rattle.card.proofs.ask.Goals as goal
 
 pub returns-then-found-ne0 : goal.returns-then-found-ne0

@@ -2,7 +2,6 @@
 use Rattle.sight.specs.declared.aims.Act.TheVariants.{BuildKsm}
 use Rattle.sight.specs.Asked.{call_of}
 use Rattle.card.proofs.Calling.{called}
-use borrow.Author.Rules.{rules}
 use Rattle.card.proofs.build_ksm.Goals as goal
 
 pub returns : goal.returns

@@ -4,7 +4,6 @@ use Rattle.octets.specs.Part.{bare}
 use Rattle.sight.specs.declared.aims.Act.TheVariants.{BuildRsi}
 use Rattle.sight.specs.Asked.{call_of}
 use Rattle.card.proofs.Ends.{changed_kept, changed_went, written_by}
-use borrow.Author.Rules.{rules}
 use Rattle.card.proofs.build_rsi.Goals as goal
 
 pub returns-then-found-ne0 : goal.returns-then-found-ne0

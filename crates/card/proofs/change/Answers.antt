@@ -2,7 +2,6 @@
 use mathlib.Core.Path.{ap, ◌∙◌}
 use Rattle.octets.specs.Part.{bare}
 use Rattle.card.proofs.Ends.{changed_kept, changed_went}
-use borrow.Author.Rules.{rules}
 use Rattle.card.proofs.change.Goals as goal
 
 pub returns-then-found-ne0 : goal.returns-then-found-ne0

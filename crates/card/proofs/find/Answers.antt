@@ -9,7 +9,6 @@ use Rattle.sight.specs.declared.Sight.{Sight}
 use Rattle.sight.specs.declared.Glance.{Glance}
 use Rattle.turn.specs.Way.{order, glance, refusal}
 use Rattle.card.specs.Ways.{blind, sighted, seen, sought}
-use borrow.Author.Rules.{rules}
 use Rattle.card.proofs.find.Goals as goal
 
 pub returns-then-not-legal : goal.returns-then-not-legal

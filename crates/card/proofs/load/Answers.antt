@@ -20,7 +20,6 @@ use Rattle.image.specs.Image.{largest}
 use Rattle.card.proofs.Delivering.{delivered_so}
 use Rattle.card.proofs.Roomed.{load_all, load_so}
 use Rattle.card.proofs.Ends.{refused_end, way_went, aimed_as, found_as}
-use borrow.Author.Rules.{rules}
 use Rattle.card.proofs.load.Goals as goal
 
 pub returns-then-found-ne0 : goal.returns-then-found-ne0

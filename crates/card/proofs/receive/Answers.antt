@@ -3,7 +3,6 @@ use mathlib.Core.List.{[]}
 use Rattle.sight.specs.declared.aims.Act.TheVariants.{Receive}
 use Rattle.sight.specs.Asked.{call_of}
 use Rattle.card.proofs.Calling.{called}
-use borrow.Author.Rules.{rules}
 use Rattle.card.proofs.receive.Goals as goal
 
 pub returns : goal.returns

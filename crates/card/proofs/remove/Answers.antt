@@ -15,7 +15,6 @@ use Rattle.image.specs.Image.{largest}
 use Rattle.card.proofs.Delivering.{delivered_so}
 use Rattle.card.proofs.Roomed.{remove_all, remove_so}
 use Rattle.card.proofs.Ends.{refused_end, way_went, found_as}
-use borrow.Author.Rules.{rules}
 use Rattle.card.proofs.remove.Goals as goal
 
 pub returns-then-found-ne0 : goal.returns-then-found-ne0

@@ -1,6 +1,5 @@
 -- `card::start` meets its contract: 6, 10, else the first image. Assumes nothing.
 use Rattle.card.proofs.Starting.{start_refused, start_written}
-use borrow.Author.Rules.{rules}
 use Rattle.card.proofs.start.Goals as goal
 
 pub returns-then-answer-ne0 : goal.returns-then-answer-ne0

@@ -1,5 +1,4 @@
 -- `turn::loading` meets its contract: the answer so far goes through every test. Assumes nothing.
-use borrow.Author.Rules.{rules}
 use Rattle.turn.proofs.loading.Goals as goal
 
 pub returns : goal.returns

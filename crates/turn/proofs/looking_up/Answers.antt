@@ -1,5 +1,4 @@
 -- `turn::looking_up` meets its contract: the answer so far goes through every test. Assumes nothing.
-use borrow.Author.Rules.{rules}
 use Rattle.turn.proofs.looking_up.Goals as goal
 
 pub returns : goal.returns

@@ -1,5 +1,4 @@
 -- `turn::plain` meets its contract: nothing is told. Assumes nothing.
-use borrow.Author.Rules.{rules}
 use Rattle.turn.proofs.Acting.{plain_is}
 use Rattle.turn.proofs.plain.Goals as goal
 

@@ -1,6 +1,5 @@
 -- `turn::take` meets its contract: a refusal, or the turn. Assumes nothing.
 use lib.ListN.{length}
-use borrow.Author.Rules.{rules}
 use Rattle.turn.specs.Way.{refusal}
 use Rattle.turn.proofs.Acting.{gives_as, gives_refusal, way_refused, way_turned}
 use Rattle.turn.proofs.take.Goals as goal

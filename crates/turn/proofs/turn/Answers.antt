@@ -6,7 +6,6 @@ use Rattle.partner.specs.Changes.{loaded}
 use Rattle.outcome.specs.Acts.{build_ksm}
 use Rattle.turn.specs.Way.{turn}
 use Rattle.turn.proofs.Acting.{turns_as, gives_as, gives_up, gives_plain}
-use borrow.Author.Rules.{rules}
 use Rattle.turn.proofs.turn.Goals as goal
 
 pub returns-in-Receive : goal.returns-in-Receive

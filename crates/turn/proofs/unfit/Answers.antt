@@ -1,7 +1,6 @@
 -- `turn::unfit` meets its contract: test by test. Assumes nothing.
 use mathlib.Core.Path.{◌∙◌}
 use Rattle.turn.proofs.Acting.{malformed_unfit, taken_unfit, own_unfit}
-use borrow.Author.Rules.{rules}
 use Rattle.turn.proofs.unfit.Goals as goal
 
 pub returns-then-not-aim : goal.returns-then-not-aim

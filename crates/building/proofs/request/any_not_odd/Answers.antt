@@ -2,16 +2,16 @@
 use mathlib.Core.Path.{sym, ◌∙◌}
 use mathlib.Core.Bool.{or-false}
 use borrow.Author.Tests.{eq-eqb, ne_eqb}
-use Rattle.calls.specs.Words.{if◌then◌else◌, any}
+use Rattle.calls.specs.Words.{in_case◌then◌else◌, any}
 use Rattle.calls.specs.Build.{used}
 use Rattle.building.proofs.request.any_not_odd.Goals as goal
 
 pub returns-then-q-eq1 : goal.returns-then-q-eq1
-unfolding any used if◌then◌else◌
+unfolding any used in_case◌then◌else◌
 returns-then-q-eq1 c = rw (eq-eqb _ 1 c.if-q-eq1.true) (c.not_odd.ensures ∙ sym (or-false _))
 
 pub returns-then-not_odd : goal.returns-then-not_odd
-unfolding any used if◌then◌else◌
+unfolding any used in_case◌then◌else◌
 returns-then-not_odd c =
     rw (
       ne_eqb _ 1 c.if-q-eq1.false,
@@ -20,7 +20,7 @@ returns-then-not_odd c =
     ) c.if-not_odd.true
 
 pub returns-else-not_odd : goal.returns-else-not_odd
-unfolding any used if◌then◌else◌
+unfolding any used in_case◌then◌else◌
 returns-else-not_odd c =
     rw (
       ne_eqb _ 1 c.if-q-eq1.false,
@@ -29,5 +29,5 @@ returns-else-not_odd c =
     ) (c.not_odd-else-not_odd.ensures ∙ sym (or-false _))
 
 pub returns : goal.returns
-unfolding any used if◌then◌else◌
+unfolding any used in_case◌then◌else◌
 returns c = rw (ne_eqb _ 1 c.if-q-eq1.false, ne_eqb _ 2 c.if-q-eq2.false)

@@ -1,7 +1,6 @@
 -- `card::key::name_with` meets its contract: by the number of the key's bytes.
 use mathlib.Core.Path.{sym}
 use Rattle.card.proofs.Keys.{key_of_no_length, named_8, named_16, unnamed}
-use borrow.Author.Rules.{rules}
 use Rattle.card.proofs.key.name_with.Goals as goal
 
 pub returns-then-key-eq8 : goal.returns-then-key-eq8

@@ -8,7 +8,6 @@ use Rattle.octets.proofs.Comparing.{octets_lent}
 use Rattle.keying.specs.declared.Top.TheVariants.{Single, Pair}
 use Rattle.card.specs.Ways.{top_or_zero, top_of}
 use Rattle.card.proofs.Keys.{top_single, key_of_no_length, top_pair}
-use borrow.Author.Rules.{rules}
 use Rattle.card.proofs.key.top_of.Goals as goal
 
 pub returns-then-key-eq8 : goal.returns-then-key-eq8

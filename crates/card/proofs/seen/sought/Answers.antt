@@ -1,5 +1,4 @@
 -- `card::seen::sought` meets its contract: a free slot or the partner's.
-use borrow.Author.Rules.{rules}
 use Rattle.card.proofs.seen.sought.Goals as goal
 
 pub returns-then-aim : goal.returns-then-aim

@@ -3,7 +3,6 @@ use mathlib.Core.Path.{sym, ap, ◌∙◌}
 use mathlib.Core.Bool.{Bool, cond}
 use Rattle.image.specs.Places.{slot_of}
 use Rattle.card.specs.Ways.{theirs}
-use borrow.Author.Rules.{rules}
 use Rattle.card.proofs.seen.theirs.Goals as goal
 
 pub returns-then-not-aim : goal.returns-then-not-aim
