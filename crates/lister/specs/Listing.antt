@@ -40,6 +40,6 @@ listed_class (some r) = class_number (class_of r.body)
 unfoldable pub row_of : Text → Row
 row_of line = record { class = listed_class (read line); bytes = min (length line) 513 }
 
--- what is held of a line, at most 513 bytes, is listed as the line is; proved as `held-is-enough` in proofs/Listed.antt
+-- what is held of a line, at most 513 bytes, is listed as the line is; proved as `held_is_enough` in proofs/Listed.antt
 abbrev pub HeldIsEnough : Type 0
 HeldIsEnough = (line : Text) → row_of (take 513 line) ≡ row_of line

@@ -15,7 +15,7 @@ use Rattle.row.specs.Calls.{slot_of, asked, start_row, read_row, image_given}
 use Rattle.row.specs.Stored.{start_answer, read_answer}
 
 pub record Orders : Type 0 where
-  -- receive and both builds: 13 (`else-13` of the claims), then 6, reply room under 256
+  -- receive and both builds: 13 (`else_13` of the claims), then 6, reply room under 256
   pub receive_6 : (own : Text) (slots : List Entry) (room : ℕ) (text : Text)
       → is_name own && legal (table own slots) ≡ true → room < 256 → (over_row own slots (receive room text)).outcome ≡ refusal 6
   pub build_ksm_6 : (own : Text) (slots : List Entry) (room : ℕ) (id : Text) (q : Request)
