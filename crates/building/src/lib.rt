@@ -30,6 +30,7 @@ fn judge(own: &[u8], e: Entry, q: Request, room: usize) -> u32
 }
 
 // Build a KSM: the message with the next send count, which rises by one; outgoing keys set; phase 1.
+#[inline(never)]
 pub fn build_ksm(own: &[u8], e: Entry, q: Request, reply: &mut [u8]) -> Turned
     ensures value { result ≡ report.turned (acts.build_ksm own.now e (length reply.old) q) }
     ensures reply_after { reply.new ≡ report.replied (acts.build_ksm own.now e (length reply.old) q).outcome reply.old }
@@ -46,6 +47,7 @@ pub fn build_ksm(own: &[u8], e: Entry, q: Request, reply: &mut [u8]) -> Turned
 }
 
 // Build an RSI for the service whose contents of SVR these are; it changes nothing.
+#[inline(never)]
 pub fn build_rsi(own: &[u8], e: Entry, contents: &[u8], reply: &mut [u8]) -> Turned
     ensures value { result ≡ report.turned (acts.build_rsi own.now e (length reply.old) contents.now) }
     ensures reply_after { reply.new ≡ report.replied (acts.build_rsi own.now e (length reply.old) contents.now).outcome reply.old }
@@ -67,6 +69,7 @@ pub fn build_rsi(own: &[u8], e: Entry, contents: &[u8], reply: &mut [u8]) -> Tur
 }
 
 // Give up: 5 where nothing is waiting, else phase 3 and keys wiped.
+#[inline(never)]
 pub fn give_up(e: Entry) -> Turned
     ensures { result ≡ report.turned (building.give_up e) }
 {

@@ -28,6 +28,7 @@ enum Value {
 }
 
 // The value of an IV: after P as it stands, after E deciphered; nothing where it is not E or P and 16 hex digits.
+#[inline(never)]
 fn iv_value(keys: DataKeys, w: &[u8]) -> Value
     ensures { result ≡ stages.value_of (steps.iv_value (listed keys) w.now) }
 {

@@ -112,6 +112,7 @@ fn receive_esm(e: Entry, m: Esm) -> Turned
 
 // Receive, once the partner's entry is found: 13, 6, 1, then by class; an RSI: 0, the service wanted is returned; an option:
 // 4 with O.
+#[inline(never)]
 pub fn receive(own: &[u8], e: Entry, text: &[u8], reply: &mut [u8]) -> Turned
     ensures value { result ≡ report.turned (acts.receive own.now e (length reply.old) text.now) }
     ensures reply_after { reply.new ≡ report.replied (acts.receive own.now e (length reply.old) text.now).outcome reply.old }

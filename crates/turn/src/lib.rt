@@ -62,6 +62,7 @@ pub fn refusal(aim: Aim, glance: Glance, act: Act, text: &[u8], room: usize) -> 
 // ---- the turn of one entry
 
 // 0: the entry as it is now, and nothing told.
+#[inline(never)]
 fn plain(e: Entry) -> Turned
     ensures { result ≡ report.turned (calls.done e [] calls.nothing) }
 {
@@ -72,6 +73,7 @@ fn plain(e: Entry) -> Turned
 }
 
 // What is asked of one entry; of a load the new entry, with `text` as the key's name.
+#[inline(always)]
 pub fn turn(own: &[u8], partner: Name, e: Entry, act: Act, text: &[u8], reply: &mut [u8]) -> Turned
     ensures value { result ≡ report.turned (way.turn own.now partner e act text.now (length reply.old)) }
     ensures reply_after { reply.new ≡ report.replied (way.turn own.now partner e act text.now (length reply.old)).outcome reply.old }
