@@ -2,8 +2,10 @@
 has a `requires`.
 
 A function counts that code outside its crate can call: `pub fn`, `pub extern "C" fn` and a public method, in src/lib.rt, in
-an open module, or handed on by `pub use`. A program has none: nothing can call into it.
-Its statement stands in proofs/Determined.antt of its crate, under its name, its module before it where two have one name. It
+an open module, or handed on by `pub use`; and `default` of a type that derives or writes Default. A program has none: nothing
+can call into it.
+Its statement stands in proofs/Determined.antt of its crate, under its name, its module before it where two have one name, and
+of `default` under any. It
 is one of three (FORMS), of its own contract: the second of a function that hands out a part of what it was lent, whose
 contents alone are compared.
 Usage: count.py, from the top folder.
@@ -21,6 +23,8 @@ FORMS = {
 }
 # what the two words of a form stand for in a crate's file
 MODULES = {"fn": "Rattle.{}.proofs", "contract": "Rattle.{}.specs.contracts"}
+# the types that have a default
+DEFAULT = re.compile(r"#\[derive\([^)]*\bDefault\b[^)]*\)\]\s*pub (?:struct|enum) (\w+)|^impl Default for (\w+)", re.M)
 WORD = re.compile(r"//[^\n]*|b'(?:\\[^']+|[^'\\])'|b?\"(?:\\.|[^\"\\])*\"|->|::|\w+|[^\s\w]")
 BEFORE_FN = {"extern", '"C"', "const"}
 
@@ -96,6 +100,9 @@ def functions(crate):
             elif kind == "use" and only == "*":
                 module, names = handed_on(words)
                 todo += [(module, name) for name in names if module in files]
+    for file in (crate / "src").glob("*.rt"):
+        for derived, written in DEFAULT.findall(file.read_text()):
+            found[f"{derived or written}Default.default"] = (False, False)
     return found
 
 
@@ -126,6 +133,8 @@ def faults(crate, wanted):
             yield f"{function}: it has a requires"
         forms = [form.format(path) for form, of_a_part in FORMS.items() if of_a_part == part]
         names = [path.rpartition(".")[2], path.replace(".", "_")]
+        if names[0] == "default":
+            names += [name for name, kind in stated.items() if kind in forms]
         names = [name for name in names if stated.get(name) in forms] or names
         kind = stated.pop(names[0], None)
         if kind is None:

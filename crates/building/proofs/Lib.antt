@@ -1,4 +1,4 @@
-pub mod Turning
+pub mod Chosen
 pub mod Judging
 pub mod Wording
 pub mod Determined

@@ -1,84 +1,104 @@
-// Build a KSM, build an RSI, give up, once the partner's entry is found: on one entry by value.
+// Build a KSM, build an RSI, give up, once the partner's entry is found: on one entry, lent.
 #![tactic(auto)]
 
 ghost use Rattle.std.specs.Prelude.{◌≡◌, length};
 ghost use Rattle.octets.specs.First.{first};
+ghost use Rattle.calls.specs.Refusal.{answer_of};
 ghost use Rattle.outcome.specs.Report as report;
 ghost use Rattle.outcome.specs.Acts as acts;
 ghost use Rattle.calls.specs.Build as building;
 ghost use Rattle.building.specs.Order as order;
 
-use calls::Request;
-use fields::Number;
-use outcome::Turned;
+use calls::{Refusal, Request};
+use outcome::{Given, Parties, Told, Turned};
 use partner::Entry;
 
 mod message;
 mod request;
 
-// The answer of building a KSM, in the order of document 01: 13, 6, 7, 8, 11, 12, or 0.
-fn judge(own: &[u8], e: Entry, q: Request, room: usize) -> u32
-    ensures { result ≡ first (order.build_ksm own.now e room q) }
+// The answer of building a KSM where both parties are lawful, in the order of document 01: 6, 7, 8, 11, 12, or 0.
+#[tactic(auto, unfolding(crate::specs::Order::build_ksm, calls::specs::Receive::is_waiting))]
+fn judge(e: &Entry, q: &Request, room: usize) -> Result<(), Refusal>
+    ensures { answer_of result ≡ first (order.build_ksm e.now room q.now) }
 {
-    let sending = e.sending;
-    let a = octets::then(0, !outcome::is_sound(own, e), 13);
-    let b = octets::then(a, room < calls::ROOM, 6);
-    let c = octets::then(b, sending.phase == partner::WAITING, 7);
-    let d = octets::then(c, sending.next == partner::LIMIT, 8);
-    let f = octets::then(d, request::any_not_odd(q), 11);
-    octets::then(f, request::malformed(q), 12)
+    if room < calls::ROOM {
+        return Err(Refusal::NoRoom);
+    }
+    if e.sending.phase == partner::WAITING {
+        return Err(Refusal::AlreadyWaiting);
+    }
+    if e.sending.next == partner::LIMIT {
+        return Err(Refusal::CountUsedUp);
+    }
+    if request::any_not_odd(q) {
+        return Err(Refusal::EvenKey);
+    }
+    if request::malformed(q) {
+        return Err(Refusal::Malformed);
+    }
+    Ok(())
 }
 
 // Build a KSM: the message with the next send count, which rises by one; outgoing keys set; phase 1.
 #[inline(never)]
-pub fn build_ksm(own: &[u8], e: Entry, q: Request, reply: &mut [u8]) -> Turned
-    ensures value { result ≡ report.turned (acts.build_ksm own.now e (length reply.old) q) }
-    ensures reply_after { reply.new ≡ report.replied (acts.build_ksm own.now e (length reply.old) q).outcome reply.old }
+#[tactic(auto, using(crate::proofs::Judging::judging), unfolding(outcome::specs::Report::turned, outcome::specs::Report::report, outcome::specs::Report::replied, crate::specs::Parts::fronted))]
+pub fn build_ksm(own: &[u8], e: &Entry, q: &Request, reply: &mut [u8]) -> Result<Turned, Refusal>
+    ensures value { report.turned_of e.now result ≡ report.turned (acts.build_ksm own.now e.now (length reply.old) q.now) }
+    ensures reply_after { reply.new ≡ report.replied (acts.build_ksm own.now e.now (length reply.old) q.now).outcome reply.old }
 {
-    let answer = judge(own, e, q, reply.len());
-    if answer != 0 {
-        return outcome::refused(e, answer);
-    }
-    let n = message::write(own, e, q, reply);
-    Turned {
-        entry: changes::with_sending(e, changes::issued(e.sending, message::outgoing(q))),
-        report: outcome::told_nothing(n),
-    }
+    let us = Parties::new(own, e)?;
+    judge(e, q, reply.len())?;
+    let length = message::write(us, q, reply);
+    Ok(Turned {
+        entry: changes::with_sending(*e, changes::issued(e.sending, message::outgoing(q))),
+        given: Given::Done {
+            length,
+            told: Told::Nothing,
+        },
+    })
 }
 
 // Build an RSI for the service whose contents of SVR these are; it changes nothing.
 #[inline(never)]
-pub fn build_rsi(own: &[u8], e: Entry, contents: &[u8], reply: &mut [u8]) -> Turned
-    ensures value { result ≡ report.turned (acts.build_rsi own.now e (length reply.old) contents.now) }
-    ensures reply_after { reply.new ≡ report.replied (acts.build_rsi own.now e (length reply.old) contents.now).outcome reply.old }
+#[tactic(auto, using(crate::proofs::Chosen::choices, crate::proofs::Wording::service_known), unfolding(outcome::specs::Acts::build_rsi, outcome::specs::Acts::guarded, calls::specs::Build::build_rsi, outcome::specs::Report::turned, outcome::specs::Report::report, outcome::specs::Report::replied, crate::specs::Parts::rsi_text, crate::specs::Parts::fronted))]
+pub fn build_rsi(
+    own: &[u8],
+    e: &Entry,
+    contents: &[u8],
+    reply: &mut [u8],
+) -> Result<Turned, Refusal>
+    ensures value { report.turned_of e.now result ≡ report.turned (acts.build_rsi own.now e.now (length reply.old) contents.now) }
+    ensures reply_after { reply.new ≡ report.replied (acts.build_rsi own.now e.now (length reply.old) contents.now).outcome reply.old }
 {
-    if !outcome::is_sound(own, e) {
-        return outcome::refused(e, 13);
-    }
+    let us = Parties::new(own, e)?;
     if reply.len() < calls::ROOM {
-        return outcome::refused(e, 6);
+        return Err(Refusal::NoRoom);
     }
-    let Number::Is(value) = fields::service(contents) else {
-        return outcome::refused(e, 12);
-    };
-    let n = message::write_rsi(own, e, value, reply);
-    Turned {
-        entry: e,
-        report: outcome::told_nothing(n),
-    }
+    let place = fields::service(contents).ok_or(Refusal::Malformed)?;
+    let length = message::write_rsi(us, place, reply);
+    Ok(Turned {
+        entry: *e,
+        given: Given::Done {
+            length,
+            told: Told::Nothing,
+        },
+    })
 }
 
 // Give up: 5 where nothing is waiting, else phase 3 and keys wiped.
 #[inline(never)]
-pub fn give_up(e: Entry) -> Turned
-    ensures { result ≡ report.turned (building.give_up e) }
+#[tactic(auto, using(crate::proofs::Chosen::choices), unfolding(calls::specs::Build::give_up, calls::specs::Receive::is_waiting, outcome::specs::Report::turned, outcome::specs::Report::report))]
+pub fn give_up(e: &Entry) -> Result<Turned, Refusal>
+    ensures { report.turned_of e.now result ≡ report.turned (building.give_up e.now) }
 {
-    let sending = e.sending;
-    if sending.phase != partner::WAITING {
-        return outcome::refused(e, 5);
+    if e.sending.phase != partner::WAITING {
+        return Err(Refusal::NothingWaiting);
     }
-    Turned {
-        entry: changes::with_sending(e, changes::given_up(sending)),
-        report: outcome::told_nothing(0),
-    }
+    Ok(Turned {
+        entry: changes::with_sending(*e, changes::given_up(e.sending)),
+        given: Given::Done {
+            length: 0,
+            told: Told::Nothing,
+        },
+    })
 }

@@ -1,159 +1,144 @@
 // The messages that are built: their parts, and the parts written to the reply buffer.
-ghost use Rattle.std.specs.Prelude.{◌≡◌, ◌<◌, length};
-ghost use Rattle.octets.specs.First.{first};
+ghost use Rattle.std.specs.Prelude.{◌≡◌, false, ◌≤◌, ◌<◌, length};
+ghost use Rattle.octets.specs.Part.{bare};
 ghost use Rattle.calls.specs.Build as building;
-ghost use Rattle.outcome.specs.Acts as acts;
-ghost use Rattle.building.specs.Order as order;
 ghost use Rattle.building.specs.Parts as parts;
 
+use crate::request::{wants_idk1, wants_idk2, wants_p};
 use calls::{KeyRequest, Request};
 use keying::Blocks;
-use messages::Ksm;
+use messages::{Address, Ksm};
+use outcome::Parties;
 use partner::{DataKey, Entry, KeySet, Name};
 use writer::{Key, Vector};
 
 // A name where it is asked for, else blanks.
-fn written(name: Name, asked: bool) -> Name
-    ensures { result ≡ parts.name_written asked name }
+fn written(name: &Name, asked: bool) -> [u8; 16]
+    ensures { result ≡ parts.name_written asked name.now }
 {
-    if asked {
-        return name;
-    }
-    Name { bytes: [b' '; 16] }
+    if asked { name.bytes } else { [b' '; 16] }
 }
 
 // An outgoing key, named by the IDK1 written.
-fn outgoing_key(k: KeyRequest) -> DataKey
-    ensures { result ≡ building.outgoing_key k }
+fn outgoing_key(k: &KeyRequest) -> DataKey
+    ensures { result ≡ building.outgoing_key k.now }
 {
-    let name = written(k.name, crate::request::wants_idk1(k));
+    let name: &[u8] = if wants_idk1(k) {
+        octets::bare(&k.name.bytes)
+    } else {
+        b""
+    };
     DataKey {
         key: k.key,
-        name: partner::name_of(octets::bare(&name.bytes)),
+        name: partner::name_of(name),
     }
 }
 
 // The outgoing keys of a request.
-pub(crate) fn outgoing(q: Request) -> KeySet
-    ensures { result ≡ building.outgoing_of q }
+#[tactic(auto, using(crate::proofs::Chosen::choices), unfolding(calls::specs::Build::outgoing_of))]
+pub(crate) fn outgoing(q: &Request) -> KeySet
+    ensures { result ≡ building.outgoing_of q.now }
 {
-    let first = outgoing_key(q.first);
-    if q.count != 2 {
-        return partner::one_key(first);
+    let first = outgoing_key(&q.first);
+    if q.count == 2 {
+        partner::two_keys(first, outgoing_key(&q.second))
+    } else {
+        partner::one_key(first)
     }
-    partner::two_keys(first, outgoing_key(q.second))
 }
 
 // The keys of a request enciphered under the working key of the next send count, plain or notarized from us to the partner.
-fn sealed_for(own: &[u8], e: Entry, q: Request) -> Blocks
-    ensures { result ≡ parts.sealed_for own.now e q }
+fn sealed_for(us: Parties, q: &Request) -> Blocks
+    ensures { result ≡ parts.sealed_for us.entry.own.now us.entry.e.now q.now }
 {
-    let one = q.first;
-    let two = q.second;
-    let sending = e.sending;
-    let identity = e.identity;
+    let e = us.e;
     sealing::seal(
         notary::working(
             q.notarized == 1,
-            own,
-            octets::bare(&identity.bytes),
+            us.own,
+            octets::bare(&e.identity.bytes),
             partner::top_of(e.top),
-            sending.next as u64,
+            e.sending.next as u64,
         ),
         Blocks {
-            first: one.key,
-            second: two.key,
-            two: q.count == 2,
+            first: q.first.key,
+            second: (q.count == 2).then_some(q.second.key),
         },
     )
 }
 
 // A key as it is written: enciphered so, marked P and with the names asked for, IDK2 the entry's.
-fn key_as(e: Entry, k: KeyRequest, sealed: u64) -> Key
-    ensures { result ≡ parts.key_as e k sealed }
+fn key_as(e: &Entry, k: &KeyRequest, sealed: u64) -> Key
+    ensures { result ≡ parts.key_as e.now k.now sealed }
 {
-    let top = e.top;
-    let own = written(k.name, crate::request::wants_idk1(k));
-    let theirs = written(top.name, crate::request::wants_idk2(k));
-    let idk1 = own.bytes;
-    let idk2 = theirs.bytes;
     Key {
         sealed,
-        p: crate::request::wants_p(k),
-        idk1,
-        idk2,
+        p: wants_p(k),
+        idk1: written(&k.name, wants_idk1(k)),
+        idk2: written(&e.top.name, wants_idk2(k)),
     }
-}
-
-// The second key as it is written; where there is one key only, that key, which is not written again.
-fn second_as(e: Entry, q: Request, sealed: u64, first: Key) -> Key
-    ensures { result ≡ parts.second_as e q sealed first }
-{
-    if q.count == 2 {
-        return key_as(e, q.second, sealed);
-    }
-    first
 }
 
 // The IV: its value, or its value enciphered by the last of the keys.
-fn vector(q: Request) -> Vector
-    ensures { result ≡ parts.vector_for q }
+fn vector(q: &Request) -> Option<Vector>
+    ensures { result ≡ parts.vector_for q.now }
 {
-    if q.kind == 1 {
-        return Vector::Plain(q.iv);
+    match q.kind {
+        1 => Some(Vector::Plain(q.iv)),
+        2 => Some(Vector::Enciphered(sealing::conceal(partner::data_keys(outgoing(q)), q.iv))),
+        _ => None,
     }
-    if q.kind == 2 {
-        return Vector::Enciphered(sealing::conceal(partner::data_keys(outgoing(q)), q.iv));
-    }
-    Vector::Absent
 }
 
 // What the KSM of a request says, with the next send count.
-fn ksm_for(own: &[u8], e: Entry, q: Request) -> Ksm
-    ensures { result ≡ parts.ksm_for own.now e q }
+#[tactic(auto, using(crate::proofs::Chosen::choices), unfolding(keying::specs::Keys::each))]
+fn ksm_for(us: Parties, q: &Request) -> Ksm
+    ensures { result ≡ parts.ksm_for us.entry.own.now us.entry.e.now q.now }
 {
-    let sending = e.sending;
-    let sealed = sealed_for(own, e, q);
-    let first = key_as(e, q.first, sealed.first);
-    let second = second_as(e, q, sealed.second, first);
-    let date = q.date;
-    let edk = date.digits;
+    let e = us.e;
+    let sealed = sealed_for(us, q);
     Ksm {
         nos: q.notarized == 1,
-        first,
-        two: q.count == 2,
-        second,
+        first: key_as(e, &q.first, sealed.first),
+        second: sealed.second.map(|block| key_as(e, &q.second, block)),
         vector: vector(q),
-        dated: q.dated == 1,
-        edk,
-        ctp: sending.next as u64,
+        edk: (q.dated == 1).then_some(q.date.digits),
+        ctp: e.sending.next as u64,
     }
 }
 
-// The KSM of a good request over the front of the reply buffer, with the next send count; its length.
-pub(crate) fn write(own: &[u8], e: Entry, q: Request, reply: &mut [u8]) -> usize
-    requires { first (order.build_ksm own.now e (length reply.old) q) ≡ 0 }
-    ensures value { result ≡ length (building.ksm_text own.now e q) }
-    ensures reply_after { reply.new ≡ parts.fronted (building.ksm_text own.now e q) reply.old }
+// To the partner, from us. Stands in `receiving` too: `outcome`, on which both stand, knows no messages, and has no other need of them.
+fn to_partner(us: Parties) -> Address
+    ensures rcv { result.rcv.now ≡ bare us.entry.e.now.identity.bytes }
+    ensures org { result.org.now ≡ us.entry.own.now }
 {
-    let identity = e.identity;
+    Address {
+        rcv: octets::bare(&us.e.identity.bytes),
+        org: us.own,
+    }
+}
+
+// The room of a lent reply is asked for twice: what writes is lent the buffer itself, by the project's rule.
+// The KSM of a good request over the front of the reply buffer, with the next send count; its length.
+#[tactic(auto, using(crate::proofs::Wording::ksm_wrote))]
+pub(crate) fn write(us: Parties, q: &Request, reply: &mut [u8]) -> usize
+    requires roomy { 256 ≤ length reply.old }
+    requires formed { building.malformed q.now ≡ false }
+    ensures value { result ≡ length (building.ksm_text us.entry.own.now us.entry.e.now q.now) }
+    ensures reply_after { reply.new ≡ parts.fronted (building.ksm_text us.entry.own.now us.entry.e.now q.now) reply.old }
+{
     let mac_key = sealing::mac_key(partner::data_keys(outgoing(q)));
-    messages::length_of(messages::write_ksm(
-        reply,
-        octets::bare(&identity.bytes),
-        own,
-        ksm_for(own, e, q),
-        mac_key,
-    ))
+    let ksm = ksm_for(us, q);
+    messages::write_ksm(reply, to_partner(us), &ksm, mac_key).unwrap_or(0)
 }
 
 // The RSI for a service over the front of the reply buffer; its length.
-pub(crate) fn write_rsi(own: &[u8], e: Entry, service: u64, reply: &mut [u8]) -> usize
-    requires ready { acts.Ready own.now e (length reply.old) }
+#[tactic(auto, using(crate::proofs::Wording::rsi_wrote))]
+pub(crate) fn write_rsi(us: Parties, service: u64, reply: &mut [u8]) -> usize
+    requires roomy { 256 ≤ length reply.old }
     requires service_bound { service < 12 }
-    ensures value { result ≡ length (parts.rsi_text own.now e service) }
-    ensures reply_after { reply.new ≡ parts.fronted (parts.rsi_text own.now e service) reply.old }
+    ensures value { result ≡ length (parts.rsi_text us.entry.own.now us.entry.e.now service) }
+    ensures reply_after { reply.new ≡ parts.fronted (parts.rsi_text us.entry.own.now us.entry.e.now service) reply.old }
 {
-    let identity = e.identity;
-    messages::length_of(messages::write_rsi(reply, octets::bare(&identity.bytes), own, service))
+    messages::write_rsi(reply, to_partner(us), service).unwrap_or(0)
 }

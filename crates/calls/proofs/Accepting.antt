@@ -1,9 +1,9 @@
 -- What the steps test of a KSM and of a request, and what they make of a good one, by their own definitions: what is
 -- good is accepted, a KSM, a request, an RSM. What this means in the paper's terms is in Meaning.
+use Rattle.std.specs.Prelude.{Some}
 use mathlib.Core.List.{[]}
 use mathlib.Core.Path.{◌≡◌, refl, sym, ◌∙◌, subst}
 use mathlib.Core.Bool.{true, false}
-use mathlib.Core.Option.{some}
 use Prim.Native.Nat.{ℕ, ◌≤◌, ◌<◌}
 use native.Mathlib.Omega.{arith}
 use borrow.Author.Tests.{le-ltb, ne_eqb, eq-eqb}
@@ -46,7 +46,7 @@ pub record Passes (us : Text) (e : Entry) (text : Text) (m : Ksm) : Type 0 where
 pub record TakenIn (us id : Text) (e : Entry) (m : Ksm) (a : After) : Type 0 where
   pub answered : a.outcome.answer ≡ 0
   pub returned : a.outcome.told ≡ keys (iv_of (brought us e m) m) m.edk
-  pub entry : entry_of id a.table ≡ some (with_receiving e (accepted m.ctp (brought us e m)))
+  pub entry : entry_of id a.table ≡ Some (with_receiving e (accepted m.ctp (brought us e m)))
   pub message : Rsm
   pub written : Carries us id (rsm message) a.outcome.reply
   pub sealed : message.mac ≡ mac (mac_key (keys_in (brought us e m))) (covered a.outcome.reply)
@@ -61,7 +61,7 @@ pub record Fit (e : Entry) (q : Request) : Type 0 where
 -- ---- the way of a call to the entry
 
 module _ (t : Table) (lawful : legal t ≡ true) (room : ℕ) (roomy : 256 ≤ room) (id : Text) (e : Entry)
-    (known : entry_of id t ≡ some e) where
+    (known : entry_of id t ≡ Some e) where
   pub receive_turns : (text : Text) (b : Body) → Carries id (bare t.own) b text
       → run t (receive room text) ≡ put_back t id (by_class.receive (bare t.own) e text b)
   unfolding run perform receiving at_partner in_case◌then◌else◌
@@ -89,7 +89,7 @@ ksm_turn us e text m good =
     )
 
 pub ksm_accepted : (t : Table) (room : ℕ) (text id : Text) (m : Ksm) (e : Entry) → legal t ≡ true → 256 ≤ room
-    → Carries id (bare t.own) (ksm m) text → entry_of id t ≡ some e → Passes (bare t.own) e text m
+    → Carries id (bare t.own) (ksm m) text → entry_of id t ≡ Some e → Passes (bare t.own) e text m
     → TakenIn (bare t.own) id e m (run t (receive room text))
 ksm_accepted t room text id m e l r c k g =
     let us = bare t.own in
@@ -108,10 +108,10 @@ ksm_accepted t room text id m e l r c k g =
 -- ---- an RSM
 
 pub rsm_taken : (t : Table) (room : ℕ) (text id : Text) (m : Rsm) (e : Entry) → legal t ≡ true → 256 ≤ room
-    → Carries id (bare t.own) (rsm m) text → entry_of id t ≡ some e
+    → Carries id (bare t.own) (rsm m) text → entry_of id t ≡ Some e
     → is_waiting e.sending ≡ true → m.mac ≡ mac (mac_key (keys_in e.sending.outgoing)) (covered text)
     → ((run t (receive room text)).outcome ≡ success [] confirmation)
-    × (entry_of id (run t (receive room text)).table ≡ some (with_sending e (settled e.sending)))
+    × (entry_of id (run t (receive room text)).table ≡ Some (with_sending e (settled e.sending)))
 unfolding by_class.receive receive_rsm bad_mac in_case◌then◌else◌
 rsm_taken t room text id m e l r c k w s =
     rw (
@@ -123,9 +123,9 @@ rsm_taken t room text id m e l r c k w s =
 -- ---- an ESM
 
 pub esm_breaking : (t : Table) (room : ℕ) (text id : Text) (m : Esm) (e : Entry) → legal t ≡ true → 256 ≤ room
-    → Carries id (bare t.own) (esm m) text → entry_of id t ≡ some e → is_waiting e.sending ≡ true
+    → Carries id (bare t.own) (esm m) text → entry_of id t ≡ Some e → is_waiting e.sending ≡ true
     → ((run t (receive room text)).outcome ≡ success [] (failure m.erf))
-    × (entry_of id (run t (receive room text)).table ≡ some (with_sending e (after_esm e.sending m)))
+    × (entry_of id (run t (receive room text)).table ≡ Some (with_sending e (after_esm e.sending m)))
 unfolding by_class.receive receive_esm in_case◌then◌else◌
 esm_breaking t room text id m e l r c k w =
     rw (receive_turns t l room r id e k text (esm m) c, w)
@@ -134,7 +134,7 @@ esm_breaking t room text id m e l r c k w =
 -- ---- a request
 
 pub request_built : (t : Table) (room : ℕ) (id : Text) (q : Request) (e : Entry) → legal t ≡ true → 256 ≤ room
-    → entry_of id t ≡ some e → Fit e q
+    → entry_of id t ≡ Some e → Fit e q
     → run t (about id (build_ksm room q))
     ≡ put_back t id (done (with_sending e (issued e.sending (outgoing_of q))) (ksm_text (bare t.own) e q) nothing)
 unfolding building.build_ksm in_case◌then◌else◌

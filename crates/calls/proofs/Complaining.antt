@@ -1,8 +1,8 @@
 -- Errors: the letters of each, and the ESM that tells them.
+use Rattle.std.specs.Prelude.{Option, None, Some}
 use mathlib.Core.Path.{◌≡◌, refl, ap, ◌∙◌, subst}
 use mathlib.Core.Bool.{Bool, true, false, cond, not, ◌&&◌, true≢false}
 use mathlib.Core.List.{◌++◌}
-use mathlib.Core.Option.{Option, none, some}
 use Prim.Native.Nat.{ℕ, ◌+◌}
 use lib.Dec.{eqb}
 use borrow.Author.Tests.{eq-eqb, not-false}
@@ -70,17 +70,17 @@ no_foreign e m h = of_all (foreign e) m (λ k i. not_foreign e k (h k i))
 module _ (t : Table) (room : ℕ) (text id : Text) (m : Ksm) (e : Entry) (g : Comes t room id e)
     (c : Carries id (bare t.own) (ksm m) text) where
   pub foreign_is_I : (k : Kd) → KdOf m k → (Ours e k → ⊥)
-      → Tells (bare t.own) id (ascii "I") none none (run t (receive room text)).outcome
+      → Tells (bare t.own) id (ascii "I") None None (run t (receive room text)).outcome
   unfolding by_class.receive receive_ksm in_case◌then◌else◌
   foreign_is_I k i n =
-      told t room text id (ksm m) e I none g c
+      told t room text id (ksm m) e I None g c
       (rw (of_one (foreign e) m k i (not_failing (foreign e k) (λ p. n (ours e k p))))) (esm_legal I refl refl)
 
   pub even_is_K : ((k : Kd) → KdOf m k → Ours e k) → (k : Kd) → KdOf m k → k.p ≡ true → odd (in_clear (bare t.own) e m k) ≡ false
-      → Tells (bare t.own) id (ascii "K") none none (run t (receive room text)).outcome
+      → Tells (bare t.own) id (ascii "K") None None (run t (receive room text)).outcome
   unfolding by_class.receive receive_ksm uneven in_case◌then◌else◌
   even_is_K f k i p h =
-      told t room text id (ksm m) e K none g c
+      told t room text id (ksm m) e K None g c
       (rw (no_foreign e m f, of_one (uneven (bare t.own) e m) m k i (rw (p, h)))) (esm_legal K refl refl)
 
 -- ---- then F, M and P together
@@ -112,7 +112,7 @@ some_letter f s c h =
 
 -- the counts where the count is wrong
 abbrev pub counts : Bool → ℕ → ℕ → Option (ℕ × ℕ)
-counts c x y = cond (not c) (some (x, y)) none
+counts c x y = cond (not c) (Some (x, y)) None
 
 counts_told : (us id w : Text) (x y : ℕ) (a : After) (c : Bool)
     → Tells us id w (first_count (counts c x y)) (second_count (counts c x y)) a.outcome
@@ -163,15 +163,15 @@ faults_told t room text id m e set f s c g x n u b jf js jc h =
 
 pub bad_rsm : (t : Table) (room : ℕ) (text id : Text) (m : Rsm) (e : Entry) → Comes t room id e
     → Carries id (bare t.own) (rsm m) text → e.sending.phase ≡ waiting → (Sealed e.sending.outgoing text m.mac → ⊥)
-    → Tells (bare t.own) id (ascii "M") none none (run t (receive room text)).outcome
+    → Tells (bare t.own) id (ascii "M") None None (run t (receive room text)).outcome
 unfolding by_class.receive receive_rsm is_waiting in_case◌then◌else◌
 bad_rsm t room text id m e g c w n =
     let b = not_failing (bad_mac e.sending.outgoing text m.mac)
     (λ p. n (is_sealed e.sending.outgoing text m.mac p)) in
-    told t room text id (rsm m) e M none g c (rw (eq-eqb e.sending.phase waiting w, b)) (esm_legal M refl refl)
+    told t room text id (rsm m) e M None g c (rw (eq-eqb e.sending.phase waiting w, b)) (esm_legal M refl refl)
 
 pub option_told : (t : Table) (room : ℕ) (text id : Text) (c : Class) (w : Text) (e : Entry) → Comes t room id e
     → Carries id (bare t.own) (option c w) text
-    → Tells (bare t.own) id (ascii "O") none none (run t (receive room text)).outcome
+    → Tells (bare t.own) id (ascii "O") None None (run t (receive room text)).outcome
 unfolding by_class.receive
-option_told t room text id c w e g x = told t room text id (option c w) e O none g x refl (esm_legal O refl refl)
+option_told t room text id c w e g x = told t room text id (option c w) e O None g x refl (esm_legal O refl refl)

@@ -1,8 +1,8 @@
 -- One entry decides: in two tables that agree on it and on our identity a call does the same.
+use Rattle.std.specs.Prelude.{Option, None, Some}
 use mathlib.Core.Path.{◌≡◌, refl, sym, ◌∙◌, subst}
 use mathlib.Core.Bool.{Bool, true, false, not}
 use mathlib.Core.List.{List}
-use mathlib.Core.Option.{Option, none, some}
 use Prim.Native.Nat.{ℕ}
 use Rattle.octets.specs.Text.{Text, same}
 use Rattle.octets.specs.Part.{bare}
@@ -45,7 +45,7 @@ module _ (t : Table) (s : List Entry) (lawful : legal t ≡ true) (lawful' : leg
     -- both tables have the entry, or neither has
     alike_found : (f : Entry → Turn)
         → ((e : Entry) → Held t id e → Held (holding t s) id e
-        → Alike id (after_turn t id f (some e)) (after_turn (holding t s) id f (some e)))
+        → Alike id (after_turn t id f (Some e)) (after_turn (holding t s) id f (Some e)))
         → Alike id (at_partner t id f) (at_partner (holding t s) id f)
     unfolding at_partner
     alike_found f k =
@@ -67,8 +67,8 @@ module _ (t : Table) (s : List Entry) (lawful : legal t ≡ true) (lawful' : leg
       → entry_of (sender o) t ≡ entry_of (sender o) (holding t s)
       → Alike (sender o) (receiving t text o) (receiving (holding t s) text o)
   unfolding receiving
-  alike_receive text none q h = (refl, h)
-  alike_receive text (some r) q h =
+  alike_receive text None q h = (refl, h)
+  alike_receive text (Some r) q h =
       alike_if r.org h (not (same r.rcv (bare t.own))) _ _ 2
       (alike_partner r.org h _ (λ e l. does_keeping _
       (receive_does (bare t.own) e (own_name t lawful) l text r.body

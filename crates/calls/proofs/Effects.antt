@@ -1,8 +1,8 @@
 -- The way of every call, and all that it can do to a table.
+use Rattle.std.specs.Prelude.{Option, Some}
 use mathlib.Core.Path.{◌≡◌, refl, sym, subst}
 use mathlib.Core.Bool.{true}
 use mathlib.Core.List.{List, [], ◌∷◌}
-use mathlib.Core.Option.{Option, some}
 use Prim.Native.Nat.{ℕ}
 use borrow.Author.Tests.{not-false}
 use Rattle.octets.specs.Text.{Text, is_name}
@@ -34,15 +34,15 @@ use Rattle.calls.proofs.Tables.{own_name, put_back, Held, entry_held, held_legal
 -- a call is refused, or comes to its partner's entry, or loads one
 pub data Walk (t : Table) : Call → After → Type 0 where
   stops : (c : Call) (n : ℕ) → refusing n ≡ true → Walk t c (refuse t n)
-  receives : (room : ℕ) (text : Text) (r : Reading) (e : Entry) → legal t ≡ true → read text ≡ some r
-      → r.rcv ≡ bare t.own → entry_of r.org t ≡ some e
+  receives : (room : ℕ) (text : Text) (r : Reading) (e : Entry) → legal t ≡ true → read text ≡ Some r
+      → r.rcv ≡ bare t.own → entry_of r.org t ≡ Some e
       → Walk t (receive room text) (put_back t r.org (by_class.receive (bare t.own) e text r.body))
-  acts : (id : Text) (a : Act) (e : Entry) → legal t ≡ true → entry_of id t ≡ some e
+  acts : (id : Text) (a : Act) (e : Entry) → legal t ≡ true → entry_of id t ≡ Some e
       → Walk t (about id a) (put_back t id (acting (bare t.own) a e))
   places : (id name : Text) (top : Top) (m : List Entry) → legal t ≡ true → is_name id ≡ true
       → differs (filled id) (t.own ∷ identities t.slots) ≡ true → is_name name ≡ true → odd_top top ≡ true
-      → into_free_slot (loaded (name_of id) (name_of name) top) t.slots ≡ some m
-      → Walk t (load id name top) (after_load t (some m))
+      → into_free_slot (loaded (name_of id) (name_of name) top) t.slots ≡ Some m
+      → Walk t (load id name top) (after_load t (Some m))
 
 walk_in : (t : Table) → legal t ≡ true → (c : Call) → Walk t c (perform t c)
 unfolding perform receiving at_partner loading
@@ -79,7 +79,7 @@ pub data Effect (t : Table) (id : Text) (R : Text → Type 0) : After → Type 0
 
 module _ (t : Table) where
   -- a turn of the entry is one of those
-  turned : (id : Text) (R : Text → Text → Type 0) (e : Entry) (r : Turn) → legal t ≡ true → entry_of id t ≡ some e
+  turned : (id : Text) (R : Text → Text → Type 0) (e : Entry) (r : Turn) → legal t ≡ true → entry_of id t ≡ Some e
       → (partner.legal e ≡ true → Does (bare t.own) e (R (bare e.identity.bytes)) r)
       → Effect t id (R id) (put_back t id r)
   turned id R e r l q h =

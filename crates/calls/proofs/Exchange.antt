@@ -1,8 +1,8 @@
 -- What one card builds the other accepts, and its reply is taken.
+use Rattle.std.specs.Prelude.{Option, None, Some}
 use mathlib.Core.Path.{◌≡◌, refl, sym, ap, ◌∙◌, subst}
 use mathlib.Core.Bool.{Bool, true, false, cond, not, ◌&&◌, ◌||◌}
 use mathlib.Core.List.{List, ◌∷◌, []}
-use mathlib.Core.Option.{Option, none, some}
 use Prim.Native.Nat.{ℕ, ◌^◌, ◌≤◌, ◌<◌}
 use Prim.Native.Char.{code}
 use lib.Dec.{eqb}
@@ -124,30 +124,30 @@ module _ (us them : Text) (e f : Entry) (q : Request) (met : Met us them e f) wh
 
 -- ---- the IV and the date arrive
 
-plain_back : (ks : List ℕ) (n : ℕ) → n < 2 ^ 64 → iv_value ks (code "P" ∷ hex_text 16 n) ≡ some n
+plain_back : (ks : List ℕ) (n : ℕ) → n < 2 ^ 64 → iv_value ks (code "P" ∷ hex_text 16 n) ≡ Some n
 unfolding iv_value in_case◌then◌else◌
-plain_back ks n h = rw (hex_passes 16 n) (ap {B = Option ℕ} some (hex_number 16 n h))
+plain_back ks n h = rw (hex_passes 16 n) (ap {B = Option ℕ} Some (hex_number 16 n h))
 
-secret_back : (ks : List ℕ) (n : ℕ) → n < 2 ^ 64 → iv_value ks (code "E" ∷ hex_text 16 (conceal ks n)) ≡ some n
+secret_back : (ks : List ℕ) (n : ℕ) → n < 2 ^ 64 → iv_value ks (code "E" ∷ hex_text 16 (conceal ks n)) ≡ Some n
 unfolding iv_value in_case◌then◌else◌
 secret_back ks n h =
     rw (hex_passes 16 (conceal ks n))
-    (ap (λ (x : ℕ). some (reveal ks x)) (hex_number 16 (conceal ks n) (conceal_lt ks n))
-    ∙ ap {B = Option ℕ} some (reveal_conceal ks n h))
+    (ap (λ (x : ℕ). Some (reveal ks x)) (hex_number 16 (conceal ks n) (conceal_lt ks n))
+    ∙ ap {B = Option ℕ} Some (reveal_conceal ks n h))
 
 -- what an IV is read as, if there is one
 abbrev iv_read : List ℕ → Option Text → Option ℕ
-iv_read ks o = elim o [ none ↦ none | some w ↦ iv_value ks w ]
+iv_read ks o = elim o [ None ↦ None | Some w ↦ iv_value ks w ]
 
 record IvBack (ks : List ℕ) (o : Option Text) (n : Option ℕ) : Type 0 where
   value : iv_read ks o ≡ n
   format : some_has (λ w. not (found (iv_value ks w))) o ≡ false
 
-iv_some : (ks : List ℕ) (w : Text) (n : ℕ) → iv_value ks w ≡ some n → IvBack ks (some w) (some n)
+iv_some : (ks : List ℕ) (w : Text) (n : ℕ) → iv_value ks w ≡ Some n → IvBack ks (Some w) (Some n)
 unfolding some_has
 iv_some ks w n h = record { value = h; format = ap (λ (o : Option ℕ). not (found o)) h }
 
-iv_none : (ks : List ℕ) → IvBack ks none none
+iv_none : (ks : List ℕ) → IvBack ks None None
 unfolding some_has
 iv_none ks = record { value = refl; format = refl }
 
@@ -156,8 +156,8 @@ unfolding iv_for in_case◌then◌else◌
 iv_back q h = go (eqb q.kind 1) (eqb q.kind 2)
   where
     go : (a b : Bool) → IvBack (keys_in (outgoing_of q))
-        (in_case a then some (code "P" ∷ hex_text 16 q.iv) else
-        in_case b then some (code "E" ∷ hex_text 16 (conceal (keys_in (outgoing_of q)) q.iv)) else none)
+        (in_case a then Some (code "P" ∷ hex_text 16 q.iv) else
+        in_case b then Some (code "E" ∷ hex_text 16 (conceal (keys_in (outgoing_of q)) q.iv)) else None)
         (asked (a || b) q.iv)
     go true b = iv_some (keys_in (outgoing_of q)) _ q.iv (plain_back (keys_in (outgoing_of q)) q.iv h)
     go false true = iv_some (keys_in (outgoing_of q)) _ q.iv (secret_back (keys_in (outgoing_of q)) q.iv h)

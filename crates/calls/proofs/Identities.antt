@@ -1,8 +1,8 @@
 -- The identities of a row of slots differ, also when a slot is turned, emptied or filled.
+use Rattle.std.specs.Prelude.{None, Some}
 use mathlib.Core.Path.{◌≡◌, refl, sym, ap, ◌∙◌, subst}
 use mathlib.Core.Bool.{true, false, not, ◌&&◌}
 use mathlib.Core.List.{List, [], ◌∷◌}
-use mathlib.Core.Option.{none, some}
 use borrow.Author.Tests.{not-true}
 use Rattle.octets.specs.Text.{Text, same}
 use Rattle.octets.proofs.Comparing.{both as and_true, same_equal as same_true, same_differs, differs_same}
@@ -77,7 +77,7 @@ module _ (id : Text) (named : partner.is_filled id ≡ true) where
       (apart_emptied l a)))
 
   -- an identity that none of them has is not found
-  pub find_none : (l : Slots) → differs id (identities l) ≡ true → find id l ≡ none
+  pub find_none : (l : Slots) → differs id (identities l) ≡ true → find id l ≡ None
   find_none [] h = refl
   find_none (e ∷ l) h =
       by_test (is_empty e) (λ q. rw (empty_nobody e id q named) (find_none l (rw q at h)))
@@ -85,7 +85,7 @@ module _ (id : Text) (named : partner.is_filled id ≡ true) where
       rw (not-true (same e.identity.bytes id) k.0) (find_none l k.1))
 
   -- where identities differ, a removed partner is gone
-  pub find_emptied : (l : Slots) → apart (identities l) ≡ true → find id (put id empty l) ≡ none
+  pub find_emptied : (l : Slots) → apart (identities l) ≡ true → find id (put id empty l) ≡ None
   find_emptied [] h = refl
   find_emptied (e ∷ l) h =
       by_test (same e.identity.bytes id)
@@ -100,13 +100,13 @@ pub data Places (x : Entry) : Slots → Slots → Type 0 where
   here : (e : Entry) (l : Slots) → is_empty e ≡ true → Places x (e ∷ l) (x ∷ l)
   later : (e : Entry) {l m : Slots} → Places x l m → Places x (e ∷ l) (e ∷ m)
 
-pub place_places : (x : Entry) (l m : Slots) → into_free_slot x l ≡ some m → Places x l m
+pub place_places : (x : Entry) (l m : Slots) → into_free_slot x l ≡ Some m → Places x l m
 place_places x [] m h = absurd (none_some m h)
 place_places x (e ∷ l) m h =
     by_test (is_empty e)
-    (λ q. let p : some (x ∷ l) ≡ some m = rw q at h in subst (Places x (e ∷ l)) (some_inj p) (here e l q))
+    (λ q. let p : Some (x ∷ l) ≡ Some m = rw q at h in subst (Places x (e ∷ l)) (some_inj p) (here e l q))
     (λ q. by_part (into_free_slot x l) (λ r. absurd (none_some m (rw (q, r) at h)))
-    (λ k r. let p : some (e ∷ k) ≡ some m = rw (q, r) at h in
+    (λ k r. let p : Some (e ∷ k) ≡ Some m = rw (q, r) at h in
     subst (Places x (e ∷ l)) (some_inj p) (later e (place_places x l k r))))
 
 pub row_place : (x : Entry) {l m : Slots} → Places x l m → Slotwise x.identity.bytes l m

@@ -1,8 +1,8 @@
 -- What follows of every call from what it can do to a table.
+use Rattle.std.specs.Prelude.{Some}
 use mathlib.Core.Path.{◌≡◌, refl, sym, ap, ◌∙◌, subst}
 use mathlib.Core.Bool.{true, false, not}
 use mathlib.Core.List.{List, ◌∷◌}
-use mathlib.Core.Option.{some}
 use Prim.Native.Nat.{◌≤◌}
 use native.Mathlib.Omega.{arith}
 use borrow.Author.Tests.{eqb-false, not-true}
@@ -124,7 +124,7 @@ module _ (t : Table) (id : Text) (R : Text → Type 0) where
 
   -- ---- the partner's entry afterwards
 
-  pub counts : (a : After) (e f : Entry) → Effect t id R a → entry_of id t ≡ some e → entry_of id a.table ≡ some f
+  pub counts : (a : After) (e f : Entry) → Effect t id R a → entry_of id t ≡ Some e → entry_of id a.table ≡ Some f
       → (e.sending.next ≤ f.sending.next) × (e.receiving.expected ≤ f.receiving.expected)
   counts a e f (refuses n k) p q = let i : e ≡ f = some_inj (sym p ∙ q) in rw i (omega arith, omega arith)
   counts a e f (turns g r l h d) p q =

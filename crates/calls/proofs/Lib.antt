@@ -1,4 +1,5 @@
 pub mod Tests
+pub mod Numbered
 pub mod Slots
 pub mod Identities
 pub mod Readings
@@ -21,3 +22,4 @@ pub mod Claims
 pub mod Steps
 pub mod Refusals
 pub mod Orders
+pub mod Determined

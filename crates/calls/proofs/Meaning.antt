@@ -1,8 +1,8 @@
 -- What the tests of a KSM mean in the paper's terms.
+use Rattle.std.specs.Prelude.{None, Some}
 use mathlib.Core.Path.{◌≡◌, refl, sym, ap}
 use mathlib.Core.Bool.{Bool, true, false, not, true≢false, ◌||◌}
 use mathlib.Core.List.{◌∷◌, []}
-use mathlib.Core.Option.{none, some}
 use Prim.Native.Nat.{ℕ}
 use Prim.Native.Char.{code}
 use native.Mathlib.Omega.{arith}
@@ -90,11 +90,11 @@ only_key us e m k d h =
     by_part k.idk1 (λ p. rw p (h.nameless p)) (λ n p. rw p (h.named n p)) in
     λ j. record { key = h.key j; name = record { bytes = i j } }
 
-brought_one : (us : Text) (e : Entry) (m : Ksm) → m.second ≡ none → brought us e m ≡ one_key (brought_key us e m m.kd)
+brought_one : (us : Text) (e : Entry) (m : Ksm) → m.second ≡ None → brought us e m ≡ one_key (brought_key us e m m.kd)
 unfolding brought
 brought_one us e m p = rw p
 
-brought_two : (us : Text) (e : Entry) (m : Ksm) (k : Kd) → m.second ≡ some k
+brought_two : (us : Text) (e : Entry) (m : Ksm) (k : Kd) → m.second ≡ Some k
     → brought us e m ≡ two_keys (brought_key us e m m.kd) (brought_key us e m k)
 unfolding brought
 brought_two us e m k p = rw p
@@ -122,21 +122,21 @@ brings_only us e m set h =
 
 -- ---- IV and date
 
-pub iv_is : (set : KeySet) (w : Text) (n : ℕ) → iv_value (keys_in set) w ≡ some n → Iv set w n
+pub iv_is : (set : KeySet) (w : Text) (n : ℕ) → iv_value (keys_in set) w ≡ Some n → Iv set w n
 unfolding iv_value in_case◌then◌else◌
 iv_is set [] n h = absurd (none_some n h)
 iv_is set (c ∷ w) n h =
     by_test (is_run (code "F") 16 16 w)
     (λ r. by_test (eqb c (code "P"))
-    (λ p. let i : some (numeral 16 0 w) ≡ some n = rw (r, p) at h in
+    (λ p. let i : Some (numeral 16 0 w) ≡ Some n = rw (r, p) at h in
     rw (eqb-true c (code "P") p, ← some_inj i) (plain w r))
     (λ p. by_test (eqb c (code "E"))
-    (λ q. let i : some (reveal (keys_in set) (numeral 16 0 w)) ≡ some n = rw (r, p, q) at h in
+    (λ q. let i : Some (reveal (keys_in set) (numeral 16 0 w)) ≡ Some n = rw (r, p, q) at h in
     rw (eqb-true c (code "E") q, ← some_inj i) (enciphered w r))
     (λ q. absurd (none_some n (rw (r, p, q) at h)))))
     (λ r. absurd (none_some n (rw r at h)))
 
-pub is_iv : (set : KeySet) (w : Text) (n : ℕ) → Iv set w n → iv_value (keys_in set) w ≡ some n
+pub is_iv : (set : KeySet) (w : Text) (n : ℕ) → Iv set w n → iv_value (keys_in set) w ≡ Some n
 unfolding iv_value in_case◌then◌else◌
 is_iv set w n (plain v r) = rw r
 is_iv set w n (enciphered v r) = rw r

@@ -1,8 +1,8 @@
 -- The claims of specs/Orders.antt, proved: each call is walked beside its order.
+use Rattle.std.specs.Prelude.{Option, None, Some}
 use mathlib.Core.Path.{◌≡◌, refl, sym, ◌∙◌}
 use mathlib.Core.Bool.{Bool, true, false, not, ◌&&◌, ◌||◌, true≢false}
 use mathlib.Core.List.{List, [], ◌∷◌}
-use mathlib.Core.Option.{Option, none, some}
 use Prim.Native.Nat.{ℕ}
 use lib.Dec.{eqb}
 use borrow.Author.Tests.{not-true}
@@ -102,8 +102,8 @@ about_first t id turn rest h = record { is = by_part (entry_of id t) (λ p. rw p
 
 text_first : (t : Table) (text : Text) (o : Option Reading) → Walks of_call (receiving t text o) (of_text t text o)
 unfolding receiving
-text_first t text none = record { is = refl }
-text_first t text (some r) =
+text_first t text None = record { is = refl }
+text_first t text (Some r) =
     asks (not (same r.rcv (bare t.own))) 2 _ _ refl refl
     (about_first t r.org (λ e. steps.receive (bare t.own) e text r.body) (λ e. by_class (bare t.own) e text r.body)
     (λ e. class_first (bare t.own) e text r.body))
@@ -156,30 +156,30 @@ inside_first l ((true, n) ∷ ts) z h =
 
 inside_text : (t : Table) (room : ℕ) (text : Text) (o : Option Reading)
     → inside (answers (receive room text)) (of_text t text o) ≡ true
-inside_text t room text none = refl
-inside_text t room text (some r) = go (entry_of r.org t) r.body
+inside_text t room text None = refl
+inside_text t room text (Some r) = go (entry_of r.org t) r.body
   where
     go : (o : Option Entry) (b : Body)
         → inside (answers (receive room text)) (at_entry o (λ e. by_class (bare t.own) e text b)) ≡ true
-    go none b = refl
-    go (some e) (rsi m) = refl
-    go (some e) (ksm m) = refl
-    go (some e) (rsm m) = refl
-    go (some e) (esm m) = refl
-    go (some e) (option c w) = refl
+    go None b = refl
+    go (Some e) (rsi m) = refl
+    go (Some e) (ksm m) = refl
+    go (Some e) (rsm m) = refl
+    go (Some e) (esm m) = refl
+    go (Some e) (option c w) = refl
 
 -- 6 where it may be given, 3 always
 inside_about : (a : Act) (o : Option Entry) → inside (act_answers a) ((no_room a, 6) ∷ at_entry o (by_act a)) ≡ true
-inside_about (build_ksm room q) none = refl
-inside_about (build_ksm room q) (some e) = refl
-inside_about (build_rsi room contents) none = refl
-inside_about (build_rsi room contents) (some e) = refl
-inside_about give_up none = refl
-inside_about give_up (some e) = refl
-inside_about remove none = refl
-inside_about remove (some e) = refl
-inside_about ask none = refl
-inside_about ask (some e) = refl
+inside_about (build_ksm room q) None = refl
+inside_about (build_ksm room q) (Some e) = refl
+inside_about (build_rsi room contents) None = refl
+inside_about (build_rsi room contents) (Some e) = refl
+inside_about give_up None = refl
+inside_about give_up (Some e) = refl
+inside_about remove None = refl
+inside_about remove (Some e) = refl
+inside_about ask None = refl
+inside_about ask (Some e) = refl
 
 inside_in : (t : Table) (c : Call) → inside (answers c) (in_order t c) ≡ true
 inside_in t (receive room text) = inside_text t room text (read text)

@@ -1,8 +1,8 @@
 -- What is known of a KSM and an ESM that were read, and that the messages which a card writes are read back.
+use Rattle.std.specs.Prelude.{None, Some}
 use mathlib.Core.Path.{◌≡◌}
 use mathlib.Core.Bool.{true, false, ◌&&◌}
 use mathlib.Core.List.{◌∷◌}
-use mathlib.Core.Option.{none, some}
 use Prim.Native.Nat.{ℕ, ◌/◌, ◌%◌, ◌^◌, ◌<◌}
 use native.Mathlib.Omega.{arith}
 use borrow.Author.Tests.{lt-ltb}
@@ -35,12 +35,12 @@ pub rsm_legal : (m : ℕ) → m < 2 ^ 32 → legal_body (rsm_body m) ≡ true
 rsm_legal m h = rw (mac_legal m h)
 
 -- letters without P
-pub esm_legal : (n : ℕ) → within 1 511 n ≡ true → has_P n ≡ false → legal_body (esm_body n none) ≡ true
+pub esm_legal : (n : ℕ) → within 1 511 n ≡ true → has_P n ≡ false → legal_body (esm_body n None) ≡ true
 esm_legal n h p = rw (h, p)
 
 -- letters with P, and both counts
 pub counted_legal : (n x y : ℕ) → within 1 511 n ≡ true → has_P n ≡ true → within 1 limit x ≡ true
-    → within 1 limit y ≡ true → legal_body (esm_body n (some (x, y))) ≡ true
+    → within 1 limit y ≡ true → legal_body (esm_body n (Some (x, y))) ≡ true
 counted_legal n x y h p a b = rw (a, b, h, p)
 
 -- a plain or enciphered IV

@@ -1,10 +1,10 @@
 -- The claims of specs/Refusals.antt, proved: each call is walked in its order.
+use Rattle.std.specs.Prelude.{None, Some}
 use mathlib.Core.Path.{◌≡◌, refl, sym, ap, ◌∙◌, subst}
 use mathlib.Core.Bool.{Bool, true, false, not}
 use mathlib.Core.List.Memᴰ
 use mathlib.Core.List.{List, ◌∷◌, ◌++◌, Memᴰ, []}
 use mathlib.Core.Logic.{◌⊎◌, inl, inr, ⊎_elim}
-use mathlib.Core.Option.{none, some}
 use Prim.Native.Nat.{ℕ, zero, suc, ◌≤◌}
 use borrow.Author.Tests.{le-ltb, lt-ltb, not-false, not-true}
 use Rattle.octets.specs.Text.{Text, same, is_name}
@@ -56,14 +56,14 @@ cramped : (t : Table) (c : Call) (b : Bool) (rest : Order) → in_order t c ≡ 
 cramped t c b rest p l h = is_refused t c 6 refl (rw (l, p, h) (stays 6 rest (not_0 6 refl)))
 
 module _ (t : Table) (room : ℕ) (text : Text) (l : legal t ≡ true) (e : 256 ≤ room) (r : Reading)
-    (h : read text ≡ some r) where
+    (h : read text ≡ Some r) where
   not_for_us : (r.rcv ≡ bare t.own → ⊥) → run t (receive room text) ≡ refuse t 2
   not_for_us n =
       is_refused t (receive room text) 2 refl
       (rw (l, le-ltb room 256 e, h, differs_same r.rcv (bare t.own) n)
       (stays 2 (at_entry (entry_of r.org t) (λ e. by_class (bare t.own) e text r.body)) (not_0 2 refl)))
 
-  no_sender : r.rcv ≡ bare t.own → entry_of r.org t ≡ none → run t (receive room text) ≡ refuse t 3
+  no_sender : r.rcv ≡ bare t.own → entry_of r.org t ≡ None → run t (receive room text) ≡ refuse t 3
   no_sender p n =
       let s = ap (λ (w : Text). same w (bare t.own)) p ∙ same_refl (bare t.own) in
       is_refused t (receive room text) 3 refl (rw (l, le-ltb room 256 e, h, s, n))
@@ -71,19 +71,19 @@ module _ (t : Table) (room : ℕ) (text : Text) (l : legal t ≡ true) (e : 256 
 -- ---- build an RSI, remove, ask
 
 -- a turn that leaves the entry leaves the table
-pub same_table : (t : Table) (id : Text) (e : Entry) → entry_of id t ≡ some e
+pub same_table : (t : Table) (id : Text) (e : Entry) → entry_of id t ≡ Some e
     → holding t (put (filled id) e t.slots) ≡ t
 same_table t id e k = λ j. record {
   own = t.own;
   slots = put_found (filled id) t.slots e (entry_held t id e k).found j;
 }
 
-gone : (t : Table) (id : Text) (e : Entry) → legal t ≡ true → entry_of id t ≡ some e
-    → ((run t (about id remove)).outcome ≡ success [] nothing) × (entry_of id (run t (about id remove)).table ≡ none)
+gone : (t : Table) (id : Text) (e : Entry) → legal t ≡ true → entry_of id t ≡ Some e
+    → ((run t (about id remove)).outcome ≡ success [] nothing) × (entry_of id (run t (about id remove)).table ≡ None)
 unfolding run perform at_partner in_case◌then◌else◌
 gone t id e l k = rw (l, k) (refl, emptied_after t id e l (entry_held t id e k))
 
-is_found : (t : Table) (id : Text) (e : Entry) → legal t ≡ true → entry_of id t ≡ some e
+is_found : (t : Table) (id : Text) (e : Entry) → legal t ≡ true → entry_of id t ≡ Some e
     → run t (about id ask) ≡ record { outcome = success [] nothing; table = t }
 unfolding run perform at_partner in_case◌then◌else◌
 is_found t id e l k =
@@ -92,11 +92,11 @@ is_found t id e l k =
 -- ---- load
 
 -- an identity is not found exactly where all differ from it
-found_differs : (id : Text) (l : List Entry) → find id l ≡ none → differs id (identities l) ≡ true
+found_differs : (id : Text) (l : List Entry) → find id l ≡ None → differs id (identities l) ≡ true
 found_differs id [] h = refl
 found_differs id (e ∷ l) h =
     by_test (same e.identity.bytes id)
-    (λ s. let i : some e ≡ none = rw s at h in absurd (none_some e (sym i)))
+    (λ s. let i : Some e ≡ None = rw s at h in absurd (none_some e (sym i)))
     (λ s. let d = found_differs id l (rw s at h) in by_test (is_empty e) (λ q. rw q d) (λ q. rw (q, s) d))
 
 good_identity : (t : Table) (id : Text) → GoodIdentity t id → bad_identity t id ≡ false
@@ -117,7 +117,7 @@ identity_good t id h =
     }
 
 -- where each slot is in use, none is free; else the lowest is taken
-none_free : (x : Entry) (l : List Entry) → InUse l → into_free_slot x l ≡ none
+none_free : (x : Entry) (l : List Entry) → InUse l → into_free_slot x l ≡ None
 none_free x [] h = refl
 none_free x (e ∷ l) h = rw (h e (Memᴰ.head refl), none_free x l (λ f i. h f (Memᴰ.tail i)))
 
@@ -128,7 +128,7 @@ record Lowest (x : Entry) (l : List Entry) : Type 0 where
   slots : l ≡ before ++ (free ∷ after)
   in_use : InUse before
   is_free : is_empty free ≡ true
-  placed : into_free_slot x l ≡ some (before ++ (x ∷ after))
+  placed : into_free_slot x l ≡ Some (before ++ (x ∷ after))
 
 used_more : (e : Entry) (l : List Entry) → is_empty e ≡ false → InUse l → InUse (e ∷ l)
 used_more e l p h f i =

@@ -1,8 +1,8 @@
 -- A request that is not malformed: the message built of it is legal, and its keys make a good set.
+use Rattle.std.specs.Prelude.{Option, None, Some}
 use mathlib.Core.Path.{◌≡◌, refl}
 use mathlib.Core.Bool.{Bool, true, false, not, ◌&&◌, ◌||◌, true≢false}
 use mathlib.Core.List.{[]}
-use mathlib.Core.Option.{Option, none, some}
 use Prim.Native.Nat.{ℕ, ◌<◌, ◌^◌}
 use Prim.Native.Char.{code}
 use lib.Dec.{eqb, ltb}
@@ -87,8 +87,8 @@ blanks_are_none = refl
 pub named_is_named : (key : ℕ) (o : Option Text) → legal_name o ≡ true
     → is_named (record { key = key; name = name_of (named o) }) ≡ true
 unfolding is_named
-named_is_named key none h = rw (blanks_are_none, same_refl blanks)
-named_is_named key (some w) h = or_right (same (filled w) blanks) (is_filled (filled w)) (claims.filled_is_filled w h)
+named_is_named key None h = rw (blanks_are_none, same_refl blanks)
+named_is_named key (Some w) h = or_right (same (filled w) blanks) (is_filled (filled w)) (claims.filled_is_filled w h)
 
 -- the IDK1 that is written
 pub idk1_legal : (k : KeyRequest) → bad_key k ≡ false → legal_name (asked (wants_idk1 k) (bare k.name.bytes)) ≡ true
@@ -105,8 +105,8 @@ idk2_legal e false h = refl
 outgoing_named : (k : KeyRequest) → bad_key k ≡ false → is_named (outgoing_key k) ≡ true
 outgoing_named k h =
     by_test (wants_idk1 k)
-    (λ p. rw p (named_is_named k.key (some (bare k.name.bytes)) (rw p at (idk1_legal k h))))
-    (λ p. rw p (named_is_named k.key none refl))
+    (λ p. rw p (named_is_named k.key (Some (bare k.name.bytes)) (rw p at (idk1_legal k h))))
+    (λ p. rw p (named_is_named k.key None refl))
 
 -- a set of one key or of two
 pub outgoing_formed : (q : Request) → Keyed q → keys_formed (outgoing_of q) ≡ true

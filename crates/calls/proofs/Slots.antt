@@ -1,8 +1,8 @@
 -- The row of slots: finding, putting back, placing.
+use Rattle.std.specs.Prelude.{Some}
 use mathlib.Core.Path.{◌≡◌, refl, sym, ap, ◌∙◌, subst}
 use mathlib.Core.Bool.{true, false, ◌||◌, true≢false}
 use mathlib.Core.List.{List, [], ◌∷◌, ◌++◌}
-use mathlib.Core.Option.{some}
 use Prim.Native.Nat.{ℕ, zero, suc}
 use native.Mathlib.Omega.{arith}
 use lib.Dec.{eqb, eqb-zero-suc}
@@ -63,24 +63,24 @@ full id e named s =
 -- ---- one partner's entry
 
 module _ (id : Text) where
-  pub find_identity : (l : Slots) (e : Entry) → find id l ≡ some e → e.identity.bytes ≡ id
+  pub find_identity : (l : Slots) (e : Entry) → find id l ≡ Some e → e.identity.bytes ≡ id
   find_identity [] e h = absurd (none_some e h)
   find_identity (f ∷ l) e h =
       by_test (same f.identity.bytes id)
-      (λ q. let p : some f ≡ some e = rw q at h in
+      (λ q. let p : Some f ≡ Some e = rw q at h in
       ap (λ (x : Entry). x.identity.bytes) (sym (some_inj p)) ∙ same_true f.identity.bytes id q)
       (λ q. find_identity l e (rw q at h))
 
   -- an entry put back as it was
-  pub put_found : (l : Slots) (e : Entry) → find id l ≡ some e → put id e l ≡ l
+  pub put_found : (l : Slots) (e : Entry) → find id l ≡ Some e → put id e l ≡ l
   put_found [] e h = refl
   put_found (f ∷ l) e h =
-      by_test (same f.identity.bytes id) (λ q. let p : some f ≡ some e = rw q at h in rw q (cc))
+      by_test (same f.identity.bytes id) (λ q. let p : Some f ≡ Some e = rw q at h in rw q (cc))
       (λ q. rw (q, put_found l e (rw q at h)))
 
   -- what was put is found
-  pub find_put : (l : Slots) (e f : Entry) → find id l ≡ some e → f.identity.bytes ≡ id
-      → find id (put id f l) ≡ some f
+  pub find_put : (l : Slots) (e f : Entry) → find id l ≡ Some e → f.identity.bytes ≡ id
+      → find id (put id f l) ≡ Some f
   find_put [] e f h g = absurd (none_some e h)
   find_put (x ∷ l) e f h g =
       by_test (same x.identity.bytes id) (λ q. rw (q, g, same_refl id))
@@ -130,11 +130,11 @@ empty_slot = rw empty_is
 
 module _ (id : Text) (named : partner.is_filled id ≡ true) where
   -- the entry that is found is legal
-  pub legal_find : (l : Slots) (e : Entry) → slots_legal l ≡ true → find id l ≡ some e → partner.legal e ≡ true
+  pub legal_find : (l : Slots) (e : Entry) → slots_legal l ≡ true → find id l ≡ Some e → partner.legal e ≡ true
   legal_find [] e h k = absurd (none_some e k)
   legal_find (f ∷ l) e h k =
       by_test (same f.identity.bytes id)
-      (λ q. let p : some f ≡ some e = rw q at k in
+      (λ q. let p : Some f ≡ Some e = rw q at k in
       subst (λ (x : Entry). partner.legal x ≡ true) (some_inj p)
       (or_right (is_empty f) (partner.legal f) (full id f named q) (slot_of f l h).0))
       (λ q. legal_find l e (slot_of f l h).1 (rw q at k))

@@ -1,8 +1,8 @@
 -- Each step's result in the paper's terms.
+use Rattle.std.specs.Prelude.{Some}
 use mathlib.Core.List.{[]}
 use mathlib.Core.Path.{◌≡◌, refl, sym, ap, ◌∙◌, subst}
 use mathlib.Core.Bool.{true, false}
-use mathlib.Core.Option.{some}
 use Prim.Native.Nat.{ℕ, ◌≤◌}
 use borrow.Author.Tests.{eqb-true, eq-eqb, ne_eqb, le-ltb, ltb-false, not-false}
 use Rattle.octets.specs.Text.{Text}
@@ -101,7 +101,7 @@ good_ksm t room text id m e c k g =
     }
 
 pub accepted_good : (t : Table) (room : ℕ) (text id : Text) (m : Ksm) (e : Entry)
-    → Carries id (bare t.own) (ksm m) text → entry_of id t ≡ some e
+    → Carries id (bare t.own) (ksm m) text → entry_of id t ≡ Some e
     → (run t (receive room text)).outcome.answer ≡ 0 → GoodKsm (bare t.own) e text m
 unfolding faults bad_mac bad_count
 accepted_good t room text id m e c k z =
@@ -161,7 +161,7 @@ module _ (t : Table) (room : ℕ) (text id : Text) (m : Rsm) (e : Entry) (g : Co
       }
 
 pub taken_good : (t : Table) (room : ℕ) (text id : Text) (m : Rsm) (e : Entry)
-    → Carries id (bare t.own) (rsm m) text → entry_of id t ≡ some e
+    → Carries id (bare t.own) (rsm m) text → entry_of id t ≡ Some e
     → (run t (receive room text)).outcome.answer ≡ 0
     → (e.sending.phase ≡ waiting) × Sealed e.sending.outgoing text m.mac
 unfolding is_waiting bad_mac
@@ -177,7 +177,7 @@ broken_at : ℕ → Sending
 broken_at n = record { next = n; phase = broken; outgoing = no_keys }
 
 broken_with : (id : Text) (e : Entry) (n : ℕ) (a : After) → a.outcome.answer ≡ 0 → a.outcome.reply ≡ []
-    → entry_of id a.table ≡ some (with_sending e (broken_at n)) → Breaks id e n a
+    → entry_of id a.table ≡ Some (with_sending e (broken_at n)) → Breaks id e n a
 unfolding broken_at
 broken_with id e n a z r k = record {
   answered = z;
@@ -212,7 +212,7 @@ module _ (t : Table) (room : ℕ) (text id : Text) (m : Esm) (e : Entry) (g : Co
     esm_told =
         ap (λ o. o.told) (esm_breaking t room text id m e g.lawful g.roomy c g.known (waits e w)).0
 
-module _ (t : Table) (id : Text) (e : Entry) (l : legal t ≡ true) (k : entry_of id t ≡ some e) where
+module _ (t : Table) (id : Text) (e : Entry) (l : legal t ≡ true) (k : entry_of id t ≡ Some e) where
   pub give_up_vain : (e.sending.phase ≡ waiting → ⊥) → (run t (about id give_up)).outcome ≡ refusal 5
   give_up_vain h =
       ap (λ (a : After). a.outcome) (is_refused t (about id give_up) 5 refl (rw (l, k, waits_not e h)))
@@ -261,7 +261,7 @@ module _ (t : Table) (room : ℕ) (id : Text) (q : Request) (e : Entry) (g : Com
           let p = not_failing (malformed q) (λ p. f (request_formed q p)) in
           says 12 refl (rw (waits_not e w, ne_eqb e.sending.next limit n, none_even q o, p))
 
-  pub built_entry : GoodRequest e q → entry_of id (run t (about id (build_ksm room q))).table ≡ some (with_sending e (issued e.sending (outgoing_of q)))
+  pub built_entry : GoodRequest e q → entry_of id (run t (about id (build_ksm room q))).table ≡ Some (with_sending e (issued e.sending (outgoing_of q)))
   built_entry h =
       rw (request_built t room id q e g.lawful g.roomy g.known (fit e q h))
       (turned_after t id e (with_sending e (issued e.sending (outgoing_of q))) (entry_held t id e g.known) refl)
@@ -293,7 +293,7 @@ module _ (t : Table) (room : ℕ) (id : Text) (q : Request) (e : Entry) (g : Com
         sealed = sent_sealed us e n l q d;
       })
 
-pub built_good : (t : Table) (room : ℕ) (id : Text) (q : Request) (e : Entry) → entry_of id t ≡ some e
+pub built_good : (t : Table) (room : ℕ) (id : Text) (q : Request) (e : Entry) → entry_of id t ≡ Some e
     → (run t (about id (build_ksm room q))).outcome.answer ≡ 0 → GoodRequest e q
 built_good t room id q e k z =
     let p = rw k at (done_passes t (about id (build_ksm room q)) z) in
@@ -312,7 +312,7 @@ module _ (t u : Table) (e f : Entry) (q : Request) (room : ℕ) (p : Partners t 
     (sized : Sized q) (roomy : 256 ≤ room) where
   -- the entry that waits, and its confirmation
   confirmed_so : ((after_confirmed t u q room).outcome ≡ success [] confirmation)
-      × (entry_of (bare u.own) (after_confirmed t u q room).table ≡ some (with_sending e (settled (issued e.sending (outgoing_of q)))))
+      × (entry_of (bare u.own) (after_confirmed t u q room).table ≡ Some (with_sending e (settled (issued e.sending (outgoing_of q)))))
   unfolding issued is_waiting
   confirmed_so =
       let them = bare u.own in

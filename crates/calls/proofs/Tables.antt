@@ -1,8 +1,8 @@
 -- A legal table's rules one by one, and one partner's entry in it.
+use Rattle.std.specs.Prelude.{None, Some}
 use mathlib.Core.Path.{◌≡◌, ap, ◌∙◌}
 use mathlib.Core.Bool.{true}
 use mathlib.Core.List.{◌∷◌}
-use mathlib.Core.Option.{none, some}
 use lib.Dec.{eqb}
 use lib.ListN.{length}
 use Rattle.octets.specs.Text.{Text, is_name}
@@ -50,16 +50,16 @@ own_name t h = filled_name t.own (legal_parts t h).own
 
 pub record Held (t : Table) (id : Text) (e : Entry) : Type 0 where
   pub name : is_name id ≡ true
-  pub found : find (filled id) t.slots ≡ some e
+  pub found : find (filled id) t.slots ≡ Some e
   pub identity : e.identity.bytes ≡ filled id
   pub bare_identity : bare e.identity.bytes ≡ id
 
-pub held : (t : Table) (id : Text) (e : Entry) → is_name id ≡ true → find (filled id) t.slots ≡ some e → Held t id e
+pub held : (t : Table) (id : Text) (e : Entry) → is_name id ≡ true → find (filled id) t.slots ≡ Some e → Held t id e
 held t id e n f =
     let i = find_identity (filled id) t.slots e f in
     record { name = n; found = f; identity = i; bare_identity = ap bare i ∙ claims.bare_after_filled id n }
 
-pub entry_held : (t : Table) (id : Text) (e : Entry) → entry_of id t ≡ some e → Held t id e
+pub entry_held : (t : Table) (id : Text) (e : Entry) → entry_of id t ≡ Some e → Held t id e
 unfolding in_case◌then◌else◌
 entry_held t id e h =
     by_test (is_name id) (λ q. held t id e q (rw q at h)) (λ q. absurd (none_some e (rw q at h)))
@@ -75,13 +75,13 @@ abbrev pub put_back : Table → Text → Turn → After
 put_back t id r = record { outcome = r.outcome; table = holding t (put (filled id) r.entry t.slots) }
 
 pub turned_after : (t : Table) (id : Text) (e f : Entry) → Held t id e → f.identity ≡ e.identity
-    → entry_of id (holding t (put (filled id) f t.slots)) ≡ some f
+    → entry_of id (holding t (put (filled id) f t.slots)) ≡ Some f
 turned_after t id e f h i =
     if_true (is_name id) _ _ h.name
     ∙ find_put (filled id) t.slots e f h.found (ap (λ (n : Name). n.bytes) i ∙ h.identity)
 
 pub emptied_after : (t : Table) (id : Text) (e : Entry) → legal t ≡ true → Held t id e
-    → entry_of id (holding t (put (filled id) empty t.slots)) ≡ none
+    → entry_of id (holding t (put (filled id) empty t.slots)) ≡ None
 emptied_after t id e l h =
     if_true (is_name id) _ _ h.name
     ∙ find_emptied (filled id) (claims.filled_is_filled id h.name) t.slots

@@ -1,7 +1,7 @@
 -- Laws of the control words and of tests.
+use Rattle.std.specs.Prelude.{Option, None, Some}
 use mathlib.Core.Path.{◌≡◌, refl, sym}
 use mathlib.Core.Bool.{Bool, true, false, ◌&&◌, ◌||◌, true≢false}
-use mathlib.Core.Option.{Option, none, some}
 use Rattle.calls.specs.Words.{in_case◌then◌else◌}
 
 -- no test both holds and fails
@@ -52,6 +52,6 @@ not_holding true h = absurd (h refl)
 not_holding false h = refl
 
 -- something is there or not
-pub by_part : {A B : Type 0} (o : Option B) → (o ≡ none → A) → ((b : B) → o ≡ some b → A) → A
-by_part none f g = f refl
-by_part (some b) f g = g b refl
+pub by_part : {A B : Type 0} (o : Option B) → (o ≡ None → A) → ((b : B) → o ≡ Some b → A) → A
+by_part None f g = f refl
+by_part (Some b) f g = g b refl

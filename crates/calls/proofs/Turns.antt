@@ -1,8 +1,8 @@
 -- All that a turn can do to an entry: it refuses, complains, or makes one of the changes.
+use Rattle.std.specs.Prelude.{Option, None, Some}
 use mathlib.Core.Path.{◌≡◌, refl, sym, ap, ◌∙◌}
 use mathlib.Core.Bool.{Bool, true, false, cond, not, ◌&&◌, true≢false}
 use mathlib.Core.List.{[]}
-use mathlib.Core.Option.{Option, none, some}
 use Prim.Native.Nat.{ℕ, ◌+◌, ◌≤◌, ◌<◌}
 use native.Mathlib.Nat.{le-max_left}
 use native.Mathlib.Omega.{arith}
@@ -94,27 +94,27 @@ pub data Does (us : Text) (e : Entry) (R : Text → Type 0) : Turn → Type 0 wh
 -- ---- the counts of an ESM, and the ESM that is written
 
 abbrev pub first_count : Option (ℕ × ℕ) → Option ℕ
-first_count none = none
-first_count (some (x, y)) = some x
+first_count None = None
+first_count (Some (x, y)) = Some x
 
 abbrev pub second_count : Option (ℕ × ℕ) → Option ℕ
-second_count none = none
-second_count (some (x, y)) = some y
+second_count None = None
+second_count (Some (x, y)) = Some y
 
 pub error_written : (us : Text) (e : Entry) → is_name us ≡ true → legal e ≡ true → (n : ℕ) (o : Option (ℕ × ℕ))
     → legal_body (esm_body n o) ≡ true
     → Carries us (bare e.identity.bytes)
-    (esm (record { ctp = first_count o; ctr = second_count o; erf = n; edc = none })) (print (to_partner us e (esm_body n o)))
-error_written us e u l n none h = to_them us e u l (esm_body n none) refl h
-error_written us e u l n (some (x, y)) h = to_them us e u l (esm_body n (some (x, y))) refl h
+    (esm (record { ctp = first_count o; ctr = second_count o; erf = n; edc = None })) (print (to_partner us e (esm_body n o)))
+error_written us e u l n None h = to_them us e u l (esm_body n None) refl h
+error_written us e u l n (Some (x, y)) h = to_them us e u l (esm_body n (Some (x, y))) refl h
 
 -- ---- receive
 
 -- a value is legal
-pub svr_legal : (w : Text) (s : ℕ) → value svr w ≡ some s → svr.legal s ≡ true
+pub svr_legal : (w : Text) (s : ℕ) → value svr w ≡ Some s → svr.legal s ≡ true
 svr_legal w s h =
     by_test (svr.legal (svr.guess w) && same (svr.text (svr.guess w)) w)
-    (λ p. let i : some (svr.guess w) ≡ some s = rw p at h in
+    (λ p. let i : Some (svr.guess w) ≡ Some s = rw p at h in
     ap svr.legal (sym (some_inj i)) ∙ (and_true (svr.legal (svr.guess w)) _ p).0)
     (λ p. absurd (none_some s (rw p at h)))
 
@@ -132,7 +132,7 @@ brought_formed us e m h =
 -- the letters of F, M and P that hold, with counts where P does
 pub letters_legal : (a b c : Bool) (x y : ℕ) → within 1 limit x ≡ true → within 1 limit y ≡ true
     → not (eqb (when a F + (when b M + when c P)) 0) ≡ true
-    → legal_body (esm_body (when a F + (when b M + when c P)) (cond c (some (x, y)) none)) ≡ true
+    → legal_body (esm_body (when a F + (when b M + when c P)) (cond c (Some (x, y)) None)) ≡ true
 letters_legal true true true x y h i k = counted_legal 164 x y refl refl h i
 letters_legal true true false x y h i k = esm_legal 36 refl refl
 letters_legal true false true x y h i k = counted_legal 132 x y refl refl h i
@@ -183,8 +183,8 @@ receive_step us e text lawful (rsi m) h = serves m _
 receive_step us e text lawful (ksm m) h =
     let set = brought us e m in
     let c = (ksm_parts m h).count in
-    by_case (Step us e text (ksm m)) _ _ _ (λ q. errs _ I none (eqb-false I 0 refl) (esm_legal I refl refl)) λ q.
-    by_case (Step us e text (ksm m)) _ _ _ (λ q. errs _ K none (eqb-false K 0 refl) (esm_legal K refl refl)) λ q.
+    by_case (Step us e text (ksm m)) _ _ _ (λ q. errs _ I None (eqb-false I 0 refl) (esm_legal I refl refl)) λ q.
+    by_case (Step us e text (ksm m)) _ _ _ (λ q. errs _ K None (eqb-false K 0 refl) (esm_legal K refl refl)) λ q.
     by_case (Step us e text (ksm m)) _ _ _
     (λ q. errs _ (faults e set text m) (counts_for e m) (eqb-false _ 0 (not-true _ q))
     (letters_legal (bad_format set m) (bad_mac set text m.mac) (bad_count e.receiving.expected m.ctp)
@@ -193,11 +193,11 @@ receive_step us e text lawful (ksm m) h =
     accepts m _ (ltb-false m.ctp e.receiving.expected k.0) (short_of_last m.ctp c k.1)
 receive_step us e text lawful (rsm m) h =
     by_case (Step us e text (rsm m)) _ _ _ (λ q. vain _) λ w.
-    by_case (Step us e text (rsm m)) _ _ _ (λ q. errs _ M none (eqb-false M 0 refl) (esm_legal M refl refl)) λ q.
+    by_case (Step us e text (rsm m)) _ _ _ (λ q. errs _ M None (eqb-false M 0 refl) (esm_legal M refl refl)) λ q.
     confirms m _ (in_wait e w) (sym (eqb-true _ m.mac (not-false _ q)))
 receive_step us e text lawful (esm m) h =
     by_case (Step us e text (esm m)) _ _ _ (λ q. vain _) (λ w. breaks m _ (in_wait e w))
-receive_step us e text lawful (option c w) h = errs _ O none (eqb-false O 0 refl) (esm_legal O refl refl)
+receive_step us e text lawful (option c w) h = errs _ O None (eqb-false O 0 refl) (esm_legal O refl refl)
 
 module _ (us : Text) (e : Entry) (named : is_name us ≡ true) (lawful : legal e ≡ true) where
   abbrev Replies : Body → Turn → Type 0
@@ -237,8 +237,8 @@ module _ (us : Text) (e : Entry) (named : is_name us ≡ true) (lawful : legal e
   -- an RSI for that service
   abbrev BuildsRsi : Text → Text → Type 0
   BuildsRsi contents reply =
-      (s : ℕ) × (value svr contents ≡ some s)
-      × Carries us (bare e.identity.bytes) (rsi (record { svr = s; edc = none })) reply
+      (s : ℕ) × (value svr contents ≡ Some s)
+      × Carries us (bare e.identity.bytes) (rsi (record { svr = s; edc = None })) reply
 
   pub build_rsi_does : (contents : Text)
       → Does us e (BuildsRsi contents) (build_rsi us e contents)
@@ -246,7 +246,7 @@ module _ (us : Text) (e : Entry) (named : is_name us ≡ true) (lawful : legal e
   build_rsi_does contents =
       by_part (value svr contents) (λ q. rw (q, build_rsi) (refuses 12 refl)) λ s q.
       rw (q, build_rsi) (does _ _ _ stays
-      (s, q, to_them us e named lawful (rsi (record { svr = s; edc = none })) refl (rw (svr_legal contents s q))))
+      (s, q, to_them us e named lawful (rsi (record { svr = s; edc = None })) refl (rw (svr_legal contents s q))))
 
 pub give_up_does : (us : Text) (e : Entry) → Does us e (λ s. s ≡ []) (give_up e)
 unfolding give_up
@@ -288,7 +288,7 @@ module _ {us : Text} {e : Entry} {R : Text → Type 0} where
   does_complain t u l (refuses n k) h =
       absurd (refusing_not_4 n k h)
   does_complain t u l (complains n o k b) h = record {
-    message = record { ctp = first_count o; ctr = second_count o; erf = n; edc = none };
+    message = record { ctp = first_count o; ctr = second_count o; erf = n; edc = None };
     written = error_written us e u l n o b;
     same_letters = refl;
     some_letter = k;

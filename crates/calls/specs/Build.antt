@@ -1,6 +1,5 @@
 -- Build a KSM, build an RSI, give up, once the partner's entry is found (document 01, "Build a KSM" and on).
-use Rattle.std.specs.Prelude.{Bool, true, cond, not, ◌&&◌, ◌||◌, List, [], ◌∷◌, ◌++◌, ℕ, ◌/◌, ◌%◌, eqb, ltb}
-use Rattle.std.proofs.Math.Option.{Option, none, some}
+use Rattle.std.specs.Prelude.{Bool, true, cond, not, ◌&&◌, ◌||◌, List, [], ◌∷◌, ◌++◌, ℕ, ◌/◌, ◌%◌, eqb, ltb, Option, None, Some}
 use Rattle.octets.specs.Text.{Text, ascii}
 use Rattle.octets.specs.Part.{bare}
 use Rattle.keying.specs.Parity.{odd}
@@ -85,7 +84,7 @@ outgoing_of q =
 
 -- what a flag asks for
 abbrev pub asked : {A : Type 0} → Bool → A → Option A
-asked b a = cond b (some a) none
+asked b a = cond b (Some a) None
 
 -- the key that its keys go under: the top key offset by the next send count or, notarized, the notarizing key of us as
 -- originator, of the partner as receiver and of that count
@@ -104,8 +103,8 @@ kd_for own e q k = record {
 -- the IV: P and the value, or E and the value enciphered
 unfoldable pub iv_for : Request → Option Text
 iv_for q =
-    in_case eqb q.kind 1 then some (ascii "P" ++ hex_text 16 q.iv) else
-    in_case eqb q.kind 2 then some (ascii "E" ++ hex_text 16 (conceal (keys_in (outgoing_of q)) q.iv)) else none
+    in_case eqb q.kind 1 then Some (ascii "P" ++ hex_text 16 q.iv) else
+    in_case eqb q.kind 2 then Some (ascii "E" ++ hex_text 16 (conceal (keys_in (outgoing_of q)) q.iv)) else None
 
 -- the message with the next send count and a MAC
 unfoldable pub ksm_body : Text → Entry → Request → ℕ → Body
@@ -141,8 +140,8 @@ build_ksm own e q =
 unfoldable pub build_rsi : Text → Entry → Text → Turn
 build_rsi own e contents =
     elim (value svr contents) [
-      | none ↦ refused e 12
-      | some s ↦ done e (print (to_partner own e (rsi (record { svr = s; edc = none })))) nothing
+      | None ↦ refused e 12
+      | Some s ↦ done e (print (to_partner own e (rsi (record { svr = s; edc = None })))) nothing
     ]
 
 -- give up: 5, else phase 3 and keys wiped

@@ -1,6 +1,5 @@
 -- Every call, and the order of its answers (document 01, "Answers").
-use Rattle.std.specs.Prelude.{Bool, false, not, ◌&&◌, List, [], ◌∷◌, ℕ, ltb}
-use Rattle.std.proofs.Math.Option.{Option, none, some}
+use Rattle.std.specs.Prelude.{Bool, false, not, ◌&&◌, List, [], ◌∷◌, ℕ, ltb, Option, None, Some}
 use Rattle.octets.specs.Text.{Text, same, is_name}
 use Rattle.octets.specs.Part.{bare}
 use Rattle.keying.specs.declared.Top.{Top}
@@ -43,12 +42,12 @@ refuse t n = record { outcome = refusal n; table = t }
 
 -- its partner by name; a malformed identity is nobody's
 abbrev pub entry_of : Text → Table → Option Entry
-entry_of id t = in_case is_name id then find (filled id) t.slots else none
+entry_of id t = in_case is_name id then find (filled id) t.slots else None
 
 -- 3: partner not in the table
 abbrev pub after_turn : Table → Text → (Entry → Turn) → Option Entry → After
-after_turn t id turn none = refuse t 3
-after_turn t id turn (some e) =
+after_turn t id turn None = refuse t 3
+after_turn t id turn (Some e) =
     record { outcome = (turn e).outcome; table = holding t (put (filled id) (turn e).entry t.slots) }
 
 unfoldable pub at_partner : Table → Text → (Entry → Turn) → After
@@ -64,16 +63,16 @@ with_room t too_short after = in_case too_short then refuse t 6 else after
 -- ---- receive: 1 (no message of this paper), 2 (RCV is not us), 3, then by class
 
 unfoldable pub receiving : Table → Text → Option Reading → After
-receiving t text none = refuse t 1
-receiving t text (some r) =
+receiving t text None = refuse t 1
+receiving t text (Some r) =
     in_case not (same r.rcv (bare t.own)) then refuse t 2 else
     at_partner t r.org (λ e. by_class.receive (bare t.own) e text r.body)
 
 -- ---- load: 10 (identity malformed, our own, or taken), 12 (key name), 11 (top key), 9 (64 entries in use)
 
 abbrev pub after_load : Table → Option (List Entry) → After
-after_load t none = refuse t 9
-after_load t (some slots) = record { outcome = success [] nothing; table = holding t slots }
+after_load t None = refuse t 9
+after_load t (Some slots) = record { outcome = success [] nothing; table = holding t slots }
 
 -- 10: identity malformed, our own, or taken
 abbrev pub bad_identity : Table → Text → Bool
@@ -121,4 +120,4 @@ run t c = in_case legal t then perform t c else refuse t 13
 
 -- start: 10; a table with our identity and 64 empty slots
 unfoldable pub start : Text → Option Table
-start own = in_case is_name own then some (started (name_of own)) else none
+start own = in_case is_name own then Some (started (name_of own)) else None

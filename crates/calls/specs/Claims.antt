@@ -1,6 +1,5 @@
 -- What is claimed of every call; proved as `claims` in proofs/Claims.antt.
-use Rattle.std.specs.Prelude.{◌≡◌, ◌⊎◌, true, List, ◌∷◌, [], ℕ, ◌≤◌, ◌<◌, ◌^◌}
-use Rattle.std.proofs.Math.Option.{Option, none, some}
+use Rattle.std.specs.Prelude.{◌≡◌, ◌⊎◌, true, List, ◌∷◌, [], ℕ, ◌≤◌, ◌<◌, ◌^◌, Option, None, Some}
 use Rattle.octets.specs.Text.{Text}
 use Rattle.octets.specs.Part.{bare}
 use Rattle.keying.specs.declared.Top.{Top}
@@ -19,8 +18,8 @@ use Rattle.calls.specs.Calls.{run}
 
 -- the originator of a text; none where it is no message
 abbrev pub sender : Option Reading → Text
-sender none = []
-sender (some r) = r.org
+sender None = []
+sender (Some r) = r.org
 
 unfoldable pub subject : Call → Text
 subject (receive room text) = sender (read text)
@@ -51,7 +50,7 @@ pub data Slotwise (id : Text) : List Entry → List Entry → Type 0 where
 
 -- the text is read as this message from us to them
 abbrev pub Carries : Text → Text → Body → Text → Type 0
-Carries us them body text = read text ≡ some (record { rcv = them; org = us; body = body })
+Carries us them body text = read text ≡ Some (record { rcv = them; org = us; body = body })
 
 -- 4: the letters, and an ESM of these letters; nothing else is told
 pub record Complains (us them : Text) (o : Outcome) : Type 0 where
@@ -59,7 +58,7 @@ pub record Complains (us them : Text) (o : Outcome) : Type 0 where
   pub written : Carries us them (esm message) o.reply
   pub same_letters : message.erf ≡ o.letters
   pub some_letter : o.letters ≡ 0 → ⊥
-  pub no_edc : message.edc ≡ none
+  pub no_edc : message.edc ≡ None
   pub no_more : o.told ≡ nothing
 
 -- 0 for a text that was received: an RSM for a KSM, else no reply
@@ -71,14 +70,14 @@ Answers us them (esm m) reply = reply ≡ []
 Answers us them (option c w) reply = ⊥
 
 abbrev pub AnswersText : Text → Option Reading → Text → Type 0
-AnswersText us none reply = ⊥
-AnswersText us (some r) reply = Answers us r.org r.body reply
+AnswersText us None reply = ⊥
+AnswersText us (Some r) reply = Answers us r.org r.body reply
 
 -- 0 for an act: a KSM or an RSI where one is built, else no reply
 abbrev pub Sends : Text → Text → Act → Text → Type 0
 Sends us them (build_ksm room q) reply = (x : Ksm) × Carries us them (ksm x) reply
 Sends us them (build_rsi room contents) reply =
-    (s : ℕ) × (value svr contents ≡ some s) × Carries us them (rsi (record { svr = s; edc = none })) reply
+    (s : ℕ) × (value svr contents ≡ Some s) × Carries us them (rsi (record { svr = s; edc = None })) reply
 Sends us them give_up reply = reply ≡ []
 Sends us them remove reply = reply ≡ []
 Sends us them ask reply = reply ≡ []
@@ -119,7 +118,7 @@ pub record Claims : Type 0 where
   pub stays_legal : (t : Table) (c : Call) → legal t ≡ true → legal (run t c).table ≡ true
   -- a partner's counts never fall
   pub counts_never_fall : (t : Table) (c : Call) (e f : Entry)
-      → entry_of (subject c) t ≡ some e → entry_of (subject c) (run t c).table ≡ some f
+      → entry_of (subject c) t ≡ Some e → entry_of (subject c) (run t c).table ≡ Some f
       → (e.sending.next ≤ f.sending.next) × (e.receiving.expected ≤ f.receiving.expected)
   -- what a call does depends on the call, our identity and that partner's entry, and on no other entry
   pub one_entry_decides : (t u : Table) (c : Call) → OfOneEntry c

@@ -1,7 +1,6 @@
 -- What is good: a KSM, an RSM and a request for a key message, and whom to load (document 01, "Receive" and on). Said in
 -- the paper's terms, apart from the steps, so that a step that says otherwise makes a claim about it false.
-use Rattle.std.specs.Prelude.{◌≡◌, true, ◌∷◌, ℕ, ◌/◌, ◌%◌, ◌≤◌, ◌<◌}
-use Rattle.std.proofs.Math.Option.{none, some}
+use Rattle.std.specs.Prelude.{◌≡◌, true, ◌∷◌, ℕ, ◌/◌, ◌%◌, ◌≤◌, ◌<◌, None, Some}
 use Prim.Native.Char.{code}
 use Rattle.octets.specs.Text.{Text, is_run, is_name}
 use Rattle.octets.specs.Part.{bare}
@@ -29,11 +28,11 @@ use Rattle.calls.specs.Calls.{entry_of}
 -- the KDs of a KSM: one or two
 pub data KdOf (m : Ksm) : Kd → Type 0 where
   first : KdOf m m.kd
-  second : (k : Kd) → m.second ≡ some k → KdOf m k
+  second : (k : Kd) → m.second ≡ Some k → KdOf m k
 
 -- an IDK2 is the entry's name
 abbrev pub Ours : Entry → Kd → Type 0
-Ours e k = (n : Text) → k.idk2 ≡ some n → n ≡ bare e.top.name.bytes
+Ours e k = (n : Text) → k.idk2 ≡ Some n → n ≡ bare e.top.name.bytes
 
 -- a KD's key deciphered, where we are the receiver: under the top key offset by the message's CTP or, with NOS, under the
 -- notarizing key
@@ -47,14 +46,14 @@ EvenOnlyUnmarked us e m k = k.p ≡ true → odd (in_clear us e m k) ≡ true
 -- a data key that a KD brings, named by its IDK1 or not at all
 pub record BringsKey (us : Text) (e : Entry) (m : Ksm) (k : Kd) (d : DataKey) : Type 0 where
   pub key : d.key ≡ in_clear us e m k
-  pub named : (n : Text) → k.idk1 ≡ some n → d.name.bytes ≡ filled n
-  pub nameless : k.idk1 ≡ none → d.name.bytes ≡ blanks
+  pub named : (n : Text) → k.idk1 ≡ Some n → d.name.bytes ≡ filled n
+  pub nameless : k.idk1 ≡ None → d.name.bytes ≡ blanks
 
 -- the data keys that a KSM brings, in its order; an unused place is zero
 pub record Brings (us : Text) (e : Entry) (m : Ksm) (set : KeySet) : Type 0 where
   pub first : BringsKey us e m m.kd set.first
-  pub one : m.second ≡ none → (set.count ≡ 1) × (set.second ≡ unused)
-  pub two : (k : Kd) → m.second ≡ some k → (set.count ≡ 2) × BringsKey us e m k set.second
+  pub one : m.second ≡ None → (set.count ≡ 1) × (set.second ≡ unused)
+  pub two : (k : Kd) → m.second ≡ Some k → (set.count ≡ 2) × BringsKey us e m k set.second
 
 -- an IV and its value: P and the value, or E and the value enciphered, either of 16 hex digits
 pub data Iv (set : KeySet) : Text → ℕ → Type 0 where
@@ -64,8 +63,8 @@ pub data Iv (set : KeySet) : Text → ℕ → Type 0 where
 
 -- an IV has a value, an EDK is a date
 pub record FormedKsm (set : KeySet) (m : Ksm) : Type 0 where
-  pub iv : (w : Text) → m.iv ≡ some w → (n : ℕ) × Iv set w n
-  pub date : (w : Text) → m.edk ≡ some w → is_date w ≡ true
+  pub iv : (w : Text) → m.iv ≡ Some w → (n : ℕ) × Iv set w n
+  pub date : (w : Text) → m.edk ≡ Some w → is_date w ≡ true
 
 -- the MAC of a text is the one under these keys
 abbrev pub Sealed : KeySet → Text → ℕ → Type 0
@@ -130,4 +129,4 @@ pub record GoodRequest (e : Entry) (q : Request) : Type 0 where
 pub record GoodIdentity (t : Table) (id : Text) : Type 0 where
   pub formed : is_name id ≡ true
   pub not_ours : filled id ≡ t.own → ⊥
-  pub not_taken : entry_of id t ≡ none
+  pub not_taken : entry_of id t ≡ None

@@ -1,5 +1,6 @@
 pub mod Words
 pub mod Outcome
+pub mod Refusal
 pub mod Receive
 pub mod Build
 pub mod Calls

@@ -1,7 +1,6 @@
 -- Document 01, "Numbers to hold it to": those marked *, under one claim; and the numbers of phases and letters. Proved as
 -- `numbers` in proofs/Numbers.antt.
-use Rattle.std.specs.Prelude.{◌≡◌, ℕ}
-use Rattle.std.proofs.Math.Option.{none, some}
+use Rattle.std.specs.Prelude.{◌≡◌, ℕ, None, Some}
 use Rattle.octets.specs.Text.{Text, ascii}
 use Rattle.dates.specs.Numbers as dates
 use Rattle.keying.specs.Numbers as keying
@@ -41,8 +40,8 @@ pub record Numbers : Type 0 where
   pub count_4_is_P : ComesTo 5 4 (IsP 5)
   pub last_but_one_leaves_the_last : ComesTo 99_999_998 99_999_998 (Leaves 99_999_999)
   pub last_is_P : (n : ℕ) → ComesTo n 99_999_999 (IsP n)
-  pub kd_iv_is_a_service : value svr (ascii "KD.IV") ≡ some 3
-  pub iv_kd_is_not : value svr (ascii "IV.KD") ≡ none
+  pub kd_iv_is_a_service : value svr (ascii "KD.IV") ≡ Some 3
+  pub iv_kd_is_not : value svr (ascii "IV.KD") ≡ None
   -- phase (0 idle, 1 waiting, 2 confirmed, 3 broken)
   pub phases : (idle ≡ 0) × (waiting ≡ 1) × (confirmed ≡ 2) × (broken ≡ 3)
   -- the letters that we send, as ERF spells them

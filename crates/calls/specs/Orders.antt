@@ -1,7 +1,6 @@
 -- Each call's order of answers as data: its tests, each with its number (document 01, "Answers"). The answer is the
 -- number of the first that holds, 0 where none does. Proved as `orders` in proofs/Orders.antt.
-use Rattle.std.specs.Prelude.{◌≡◌, true, not, List, [], ◌∷◌, ℕ, eqb}
-use Rattle.std.proofs.Math.Option.{Option, none, some}
+use Rattle.std.specs.Prelude.{◌≡◌, true, not, List, [], ◌∷◌, ℕ, eqb, Option, None, Some}
 use Rattle.octets.specs.Text.{Text, same, is_name, stands}
 use Rattle.octets.specs.Part.{bare, found}
 use Rattle.octets.specs.First.{Order, first, Given}
@@ -44,13 +43,13 @@ by_act ask e = []
 
 -- partner not in the table, then its entry's
 abbrev pub at_entry : Option Entry → (Entry → Order) → Order
-at_entry none rest = (true, 3) ∷ []
-at_entry (some e) rest = rest e
+at_entry None rest = (true, 3) ∷ []
+at_entry (Some e) rest = rest e
 
 -- text not a message of this paper; RCV is not us; then its originator
 abbrev pub of_text : Table → Text → Option Reading → Order
-of_text t text none = (true, 1) ∷ []
-of_text t text (some r) =
+of_text t text None = (true, 1) ∷ []
+of_text t text (Some r) =
     (not (same r.rcv (bare t.own)), 2) ∷ at_entry (entry_of r.org t) (λ e. by_class (bare t.own) e text r.body)
 
 abbrev pub in_order : Table → Call → Order

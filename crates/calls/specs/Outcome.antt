@@ -1,6 +1,5 @@
 -- What a call gives: its answer, and what goes with it (document 01, "Answers").
-use Rattle.std.specs.Prelude.{[], ℕ}
-use Rattle.std.proofs.Math.Option.{Option}
+use Rattle.std.specs.Prelude.{[], ℕ, Option}
 use Rattle.octets.specs.Text.{Text}
 use Rattle.partner.specs.declared.Entry.{Entry}
 

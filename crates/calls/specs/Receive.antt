@@ -1,6 +1,5 @@
 -- Receive, once the partner's entry is found: by class (document 01, "Receive").
-use Rattle.std.specs.Prelude.{Bool, cond, not, ◌&&◌, ◌||◌, List, [], ◌∷◌, ℕ, ◌+◌, eqb, ltb}
-use Rattle.std.proofs.Math.Option.{Option, none, some}
+use Rattle.std.specs.Prelude.{Bool, cond, not, ◌&&◌, ◌||◌, List, [], ◌∷◌, ℕ, ◌+◌, eqb, ltb, Option, None, Some}
 use Prim.Native.Char.{code}
 use Rattle.octets.specs.Text.{Text, same, is_run}
 use Rattle.octets.specs.Part.{bare, found}
@@ -31,8 +30,8 @@ to_partner own e body = record { rcv = bare e.identity.bytes; org = own; body = 
 
 -- the ESM for P carries CTP (ours, expected) and CTR (received)
 abbrev pub esm_body : ℕ → Option (ℕ × ℕ) → Body
-esm_body letters none = esm (record { ctp = none; ctr = none; erf = letters; edc = none })
-esm_body letters (some (ctp, ctr)) = esm (record { ctp = some ctp; ctr = some ctr; erf = letters; edc = none })
+esm_body letters None = esm (record { ctp = None; ctr = None; erf = letters; edc = None })
+esm_body letters (Some (ctp, ctr)) = esm (record { ctp = Some ctp; ctr = Some ctr; erf = letters; edc = None })
 
 -- 4, the entry as it was
 abbrev pub error : Text → Entry → ℕ → Option (ℕ × ℕ) → Turn
@@ -53,7 +52,7 @@ rsm_text own e set =
 
 -- the key name in force for a KD: its own IDK2 or, without one, the name in the table entry
 abbrev pub name_in_force : Entry → Kd → Text
-name_in_force e k = elim k.idk2 [ none ↦ bare e.top.name.bytes | some n ↦ n ]
+name_in_force e k = elim k.idk2 [ None ↦ bare e.top.name.bytes | Some n ↦ n ]
 
 -- I: an IDK2 that is not the entry's name
 unfoldable pub foreign : Entry → Kd → Bool
@@ -70,7 +69,7 @@ uneven own e m k = k.p && not (odd (deciphered own e m k))
 
 -- its KDs
 abbrev pub kds : Ksm → List Kd
-kds m = m.kd ∷ elim m.second [ none ↦ [] | some k ↦ k ∷ [] ]
+kds m = m.kd ∷ elim m.second [ None ↦ [] | Some k ↦ k ∷ [] ]
 
 -- the keys and names that it brings
 abbrev pub brought_key : Text → Entry → Ksm → Kd → DataKey
@@ -79,17 +78,17 @@ brought_key own e m k = record { key = deciphered own e m k; name = name_of (nam
 unfoldable pub brought : Text → Entry → Ksm → KeySet
 brought own e m =
     elim m.second [
-      | none ↦ one_key (brought_key own e m m.kd)
-      | some k ↦ two_keys (brought_key own e m m.kd) (brought_key own e m k)
+      | None ↦ one_key (brought_key own e m m.kd)
+      | Some k ↦ two_keys (brought_key own e m m.kd) (brought_key own e m k)
     ]
 
 -- the value of an IV: after P as it stands, after E deciphered; none where it is not E or P and 16 hex digits
 unfoldable pub iv_value : List ℕ → Text → Option ℕ
-iv_value ks [] = none
+iv_value ks [] = None
 iv_value ks (c ∷ w) =
-    in_case not (is_run (code "F") 16 16 w) then none else
-    in_case eqb c (code "P") then some (numeral 16 0 w) else
-    in_case eqb c (code "E") then some (reveal ks (numeral 16 0 w)) else none
+    in_case not (is_run (code "F") 16 16 w) then None else
+    in_case eqb c (code "P") then Some (numeral 16 0 w) else
+    in_case eqb c (code "E") then Some (reveal ks (numeral 16 0 w)) else None
 
 -- F: IV not E or P and 16 hex digits, or EDK no date
 unfoldable pub bad_format : KeySet → Ksm → Bool
@@ -115,11 +114,11 @@ faults e set text m =
 
 -- the counts of an ESM for P
 abbrev pub counts_for : Entry → Ksm → Option (ℕ × ℕ)
-counts_for e m = cond (bad_count e.receiving.expected m.ctp) (some (e.receiving.expected, m.ctp)) none
+counts_for e m = cond (bad_count e.receiving.expected m.ctp) (Some (e.receiving.expected, m.ctp)) None
 
 -- the IV, if there is one
 abbrev pub iv_of : KeySet → Ksm → Option ℕ
-iv_of set m = elim m.iv [ none ↦ none | some w ↦ iv_value (keys_in set) w ]
+iv_of set m = elim m.iv [ None ↦ None | Some w ↦ iv_value (keys_in set) w ]
 
 -- if any of F, M, P holds, 4 with all that hold; otherwise 0: the keys and names replace the incoming ones, expected
 -- becomes count + 1, IV and date are returned, the reply is an RSM
@@ -131,8 +130,8 @@ judged own e text m set =
 -- I alone, K alone, then F, M and P together
 unfoldable pub receive_ksm : Text → Entry → Text → Ksm → Turn
 receive_ksm own e text m =
-    in_case any (foreign e) (kds m) then error own e I none else
-    in_case any (uneven own e m) (kds m) then error own e K none else
+    in_case any (foreign e) (kds m) then error own e I None else
+    in_case any (uneven own e m) (kds m) then error own e K None else
     judged own e text m (brought own e m)
 
 -- ---- an RSM: not waiting, 5; MAC differs under the outgoing keys, 4 with M, still waiting; otherwise 0, phase 2
@@ -143,13 +142,13 @@ is_waiting s = eqb s.phase waiting
 unfoldable pub receive_rsm : Text → Entry → Text → Rsm → Turn
 receive_rsm own e text m =
     in_case not (is_waiting e.sending) then refused e 5 else
-    in_case bad_mac e.sending.outgoing text m.mac then error own e M none else
+    in_case bad_mac e.sending.outgoing text m.mac then error own e M None else
     done (with_sending e (settled e.sending)) [] confirmation
 
 -- ---- an ESM: not waiting, 5; otherwise 0: phase 3, keys wiped, next send the larger of itself and CTP
 
 abbrev pub after_esm : Sending → Esm → Sending
-after_esm s m = elim m.ctp [ none ↦ given_up s | some x ↦ failed s x ]
+after_esm s m = elim m.ctp [ None ↦ given_up s | Some x ↦ failed s x ]
 
 unfoldable pub receive_esm : Entry → Esm → Turn
 receive_esm e m =
@@ -163,4 +162,4 @@ receive own e text (rsi m) = done e [] (service m.svr)
 receive own e text (ksm m) = receive_ksm own e text m
 receive own e text (rsm m) = receive_rsm own e text m
 receive own e text (esm m) = receive_esm e m
-receive own e text (option c w) = error own e O none
+receive own e text (option c w) = error own e O None

@@ -1,8 +1,7 @@
 -- What is claimed of each refusal before the steps: its condition in the paper's terms, where none earlier in the call's order holds.
 -- The refusals within a class and of build a KSM stand with the steps. Proved as `refusals` in proofs/Refusals.antt.
-use Rattle.std.specs.Prelude.{◌≡◌, true, false, ℕ, ◌≤◌, ◌<◌, length}
+use Rattle.std.specs.Prelude.{◌≡◌, true, false, ℕ, ◌≤◌, ◌<◌, length, None, Some}
 use mathlib.Core.List.{List, ◌∷◌, ◌++◌, Memᴰ, []}
-use Rattle.std.proofs.Math.Option.{none, some}
 use Rattle.octets.specs.Text.{Text, is_name}
 use Rattle.octets.specs.Part.{bare}
 use Rattle.keying.specs.declared.Top.{Top}
@@ -63,30 +62,30 @@ pub record Refusals : Type 0 where
   pub no_room_to_ask_for_service : (t : Table) (room : ℕ) (id contents : Text) → legal t ≡ true → room < 256
       → run t (about id (build_rsi room contents)) ≡ refuse t 6
   -- receive: text not a message of this paper, then RCV is not us, then partner not in the table
-  pub no_message_is_1 : (t : Table) (room : ℕ) (text : Text) → legal t ≡ true → 256 ≤ room → read text ≡ none
+  pub no_message_is_1 : (t : Table) (room : ℕ) (text : Text) → legal t ≡ true → 256 ≤ room → read text ≡ None
       → run t (receive room text) ≡ refuse t 1
   pub not_for_us_is_2 : (t : Table) (room : ℕ) (text : Text) (r : Reading) → legal t ≡ true → 256 ≤ room
-      → read text ≡ some r → (r.rcv ≡ bare t.own → ⊥) → run t (receive room text) ≡ refuse t 2
+      → read text ≡ Some r → (r.rcv ≡ bare t.own → ⊥) → run t (receive room text) ≡ refuse t 2
   pub no_sender_is_3 : (t : Table) (room : ℕ) (text : Text) (r : Reading) → legal t ≡ true → 256 ≤ room
-      → read text ≡ some r → r.rcv ≡ bare t.own → entry_of r.org t ≡ none
+      → read text ≡ Some r → r.rcv ≡ bare t.own → entry_of r.org t ≡ None
       → run t (receive room text) ≡ refuse t 3
   -- the other calls about a partner
   pub nobody_to_build_for : (t : Table) (room : ℕ) (id : Text) (q : Request) → legal t ≡ true → 256 ≤ room
-      → entry_of id t ≡ none → run t (about id (build_ksm room q)) ≡ refuse t 3
+      → entry_of id t ≡ None → run t (about id (build_ksm room q)) ≡ refuse t 3
   pub nobody_to_ask_for_service : (t : Table) (room : ℕ) (id contents : Text) → legal t ≡ true → 256 ≤ room
-      → entry_of id t ≡ none → run t (about id (build_rsi room contents)) ≡ refuse t 3
-  pub nobody_to_give_up : (t : Table) (id : Text) → legal t ≡ true → entry_of id t ≡ none
+      → entry_of id t ≡ None → run t (about id (build_rsi room contents)) ≡ refuse t 3
+  pub nobody_to_give_up : (t : Table) (id : Text) → legal t ≡ true → entry_of id t ≡ None
       → run t (about id give_up) ≡ refuse t 3
-  pub nobody_to_remove : (t : Table) (id : Text) → legal t ≡ true → entry_of id t ≡ none
+  pub nobody_to_remove : (t : Table) (id : Text) → legal t ≡ true → entry_of id t ≡ None
       → run t (about id remove) ≡ refuse t 3
-  pub nobody_to_show : (t : Table) (id : Text) → legal t ≡ true → entry_of id t ≡ none → run t (about id ask) ≡ refuse t 3
+  pub nobody_to_show : (t : Table) (id : Text) → legal t ≡ true → entry_of id t ≡ None → run t (about id ask) ≡ refuse t 3
   -- build an RSI: no legal SVR
   pub no_service_is_12 : (t : Table) (room : ℕ) (id contents : Text) (e : Entry) → legal t ≡ true → 256 ≤ room
-      → entry_of id t ≡ some e → value svr contents ≡ none → run t (about id (build_rsi room contents)) ≡ refuse t 12
+      → entry_of id t ≡ Some e → value svr contents ≡ None → run t (about id (build_rsi room contents)) ≡ refuse t 12
   -- remove and ask for an entry
-  pub removed_is_gone : (t : Table) (id : Text) (e : Entry) → legal t ≡ true → entry_of id t ≡ some e
-      → ((run t (about id remove)).outcome ≡ success [] nothing) × (entry_of id (run t (about id remove)).table ≡ none)
-  pub asked_is_found : (t : Table) (id : Text) (e : Entry) → legal t ≡ true → entry_of id t ≡ some e
+  pub removed_is_gone : (t : Table) (id : Text) (e : Entry) → legal t ≡ true → entry_of id t ≡ Some e
+      → ((run t (about id remove)).outcome ≡ success [] nothing) × (entry_of id (run t (about id remove)).table ≡ None)
+  pub asked_is_found : (t : Table) (id : Text) (e : Entry) → legal t ≡ true → entry_of id t ≡ Some e
       → run t (about id ask) ≡ record { outcome = success [] nothing; table = t }
   -- load: identity malformed, our own, or taken; key name; top key; 64 entries in use
   pub bad_identity_is_10 : (t : Table) (id name : Text) (top : Top) → legal t ≡ true → (GoodIdentity t id → ⊥)
@@ -101,5 +100,5 @@ pub record Refusals : Type 0 where
       → is_name name ≡ true → odd_top top ≡ true → (InUse t.slots → ⊥)
       → Loads id name top t (run t (load id name top))
   -- start: identity malformed
-  pub bad_start_is_none : (own : Text) → is_name own ≡ false → start own ≡ none
-  pub else_started : (own : Text) → is_name own ≡ true → (t : Table) × (start own ≡ some t) × Starts own t
+  pub bad_start_is_none : (own : Text) → is_name own ≡ false → start own ≡ None
+  pub else_started : (own : Text) → is_name own ≡ true → (t : Table) × (start own ≡ Some t) × Starts own t

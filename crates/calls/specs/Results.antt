@@ -1,6 +1,5 @@
 -- What a step leads to, field by field in the paper's terms (document 01, "Receive", "Build a KSM", "Load").
-use Rattle.std.specs.Prelude.{◌≡◌, Bool, true, false, ◌++◌, [], ℕ, ◌+◌, ◌/◌, ◌%◌, max}
-use Rattle.std.proofs.Math.Option.{Option, none, some}
+use Rattle.std.specs.Prelude.{◌≡◌, Bool, true, false, ◌++◌, [], ℕ, ◌+◌, ◌/◌, ◌%◌, max, Option, None, Some}
 use Rattle.octets.specs.Text.{Text, ascii}
 use Rattle.octets.specs.Part.{bare}
 use Rattle.keying.specs.Keys.{seal}
@@ -31,7 +30,7 @@ pub record KeyStays (e f : Entry) : Type 0 where
 pub record Tells (us id letters : Text) (ctp ctr : Option ℕ) (o : Outcome) : Type 0 where
   pub answered : o.answer ≡ 4
   pub spelled : erf.text o.letters ≡ letters
-  pub written : Carries us id (esm (record { ctp = ctp; ctr = ctr; erf = o.letters; edc = none })) o.reply
+  pub written : Carries us id (esm (record { ctp = ctp; ctr = ctr; erf = o.letters; edc = None })) o.reply
   pub no_more : o.told ≡ nothing
 
 -- a condition holds or does not
@@ -46,22 +45,22 @@ unless false letter = letter
 
 -- a count is told where the count is wrong
 abbrev pub told_unless : Bool → ℕ → Option ℕ
-told_unless true n = none
-told_unless false n = some n
+told_unless true n = None
+told_unless false n = Some n
 
 -- ---- a KSM is accepted
 
 -- the IV that is returned: its value, if there is one
 pub record ReturnsIv (m : Ksm) (set : KeySet) (iv : Option ℕ) : Type 0 where
-  pub without : m.iv ≡ none → iv ≡ none
-  pub value : (w : Text) → m.iv ≡ some w → (n : ℕ) × (iv ≡ some n) × Iv set w n
+  pub without : m.iv ≡ None → iv ≡ None
+  pub value : (w : Text) → m.iv ≡ Some w → (n : ℕ) × (iv ≡ Some n) × Iv set w n
 
 -- the keys and names replace the incoming ones, expected becomes count + 1, IV and date are returned, the reply is an
 -- RSM under the keys of the KSM that it answers
 pub record Accepts (us id : Text) (e : Entry) (m : Ksm) (a : After) : Type 0 where
   pub answered : a.outcome.answer ≡ 0
   pub later : Entry
-  pub entry : entry_of id a.table ≡ some later
+  pub entry : entry_of id a.table ≡ Some later
   pub expected : later.receiving.expected ≡ m.ctp + 1
   pub incoming : Brings us e m later.receiving.incoming
   pub key_stays : KeyStays e later
@@ -81,7 +80,7 @@ pub record Confirms (id : Text) (e : Entry) (a : After) : Type 0 where
   pub silent : a.outcome.reply ≡ []
   pub told : a.outcome.told ≡ confirmation
   pub later : Entry
-  pub entry : entry_of id a.table ≡ some later
+  pub entry : entry_of id a.table ≡ Some later
   pub phase : later.sending.phase ≡ confirmed
   pub next : later.sending.next ≡ e.sending.next
   pub outgoing : later.sending.outgoing ≡ e.sending.outgoing
@@ -93,7 +92,7 @@ pub record Breaks (id : Text) (e : Entry) (count : ℕ) (a : After) : Type 0 whe
   pub answered : a.outcome.answer ≡ 0
   pub silent : a.outcome.reply ≡ []
   pub later : Entry
-  pub entry : entry_of id a.table ≡ some later
+  pub entry : entry_of id a.table ≡ Some later
   pub phase : later.sending.phase ≡ broken
   pub outgoing : later.sending.outgoing ≡ no_keys
   pub next : later.sending.next ≡ count
@@ -102,15 +101,15 @@ pub record Breaks (id : Text) (e : Entry) (count : ℕ) (a : After) : Type 0 whe
 
 -- with CTP x the larger of itself and x
 abbrev pub raised_to : ℕ → Option ℕ → ℕ
-raised_to n none = n
-raised_to n (some x) = max n x
+raised_to n None = n
+raised_to n (Some x) = max n x
 
 -- ---- a KSM is built
 
 -- a flag that is 1 asks for this, and 0 for nothing
 pub data Asked {A : Type 0} (a : A) : ℕ → Option A → Type 0 where
-  yes : Asked a 1 (some a)
-  no : Asked a 0 none
+  yes : Asked a 1 (Some a)
+  no : Asked a 0 None
 
 pub data Marked : ℕ → Bool → Type 0 where
   yes : Marked 1 true
@@ -139,16 +138,16 @@ pub record WritesKey (us : Text) (e : Entry) (nos : Bool) (r : KeyRequest) (k : 
 
 -- the IV: none, P and the value, or E and the value enciphered
 pub data WritesIv (q : Request) (set : KeySet) : ℕ → Option Text → Type 0 where
-  without : WritesIv q set 0 none
-  plain : WritesIv q set 1 (some (ascii "P" ++ hex_text 16 q.iv))
-  enciphered : WritesIv q set 2 (some (ascii "E" ++ hex_text 16 (conceal (keys_in set) q.iv)))
+  without : WritesIv q set 0 None
+  plain : WritesIv q set 1 (Some (ascii "P" ++ hex_text 16 q.iv))
+  enciphered : WritesIv q set 2 (Some (ascii "E" ++ hex_text 16 (conceal (keys_in set) q.iv)))
 
 -- the fields of the message
 pub record WritesFields (us : Text) (e : Entry) (q : Request) (set : KeySet) (m : Ksm) : Type 0 where
   pub nos : Marked q.notarized m.nos
   pub first : WritesKey us e m.nos q.first m.kd
-  pub one : q.count ≡ 1 → m.second ≡ none
-  pub two : q.count ≡ 2 → (k : Kd) × (m.second ≡ some k) × WritesKey us e m.nos q.second k
+  pub one : q.count ≡ 1 → m.second ≡ None
+  pub two : q.count ≡ 2 → (k : Kd) × (m.second ≡ Some k) × WritesKey us e m.nos q.second k
   pub iv : WritesIv q set q.kind m.iv
   pub date : Asked q.date.digits q.dated m.edk
   pub count : m.ctp ≡ e.sending.next
@@ -158,7 +157,7 @@ pub record Builds (us id : Text) (e : Entry) (q : Request) (a : After) : Type 0 
   pub answered : a.outcome.answer ≡ 0
   pub told : a.outcome.told ≡ nothing
   pub later : Entry
-  pub entry : entry_of id a.table ≡ some later
+  pub entry : entry_of id a.table ≡ Some later
   pub next : later.sending.next ≡ e.sending.next + 1
   pub phase : later.sending.phase ≡ waiting
   pub outgoing : Keeps q later.sending.outgoing

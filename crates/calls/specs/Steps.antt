@@ -1,6 +1,5 @@
 -- What is claimed of each step, in the paper's terms; proved as `steps` in proofs/Steps.antt.
-use Rattle.std.specs.Prelude.{◌≡◌, Bool, true, false, ◌&&◌, ◌||◌, ◌++◌, [], ℕ, ◌+◌, ◌≤◌, eqb}
-use Rattle.std.proofs.Math.Option.{Option, none, some}
+use Rattle.std.specs.Prelude.{◌≡◌, Bool, true, false, ◌&&◌, ◌||◌, ◌++◌, [], ℕ, ◌+◌, ◌≤◌, eqb, Option, None, Some}
 use Rattle.octets.specs.Text.{Text, ascii}
 use Rattle.octets.specs.Part.{bare}
 use Rattle.keying.specs.Parity.{odd}
@@ -24,15 +23,15 @@ use Rattle.calls.specs.Results.{Builds}
 pub record Comes (t : Table) (room : ℕ) (id : Text) (e : Entry) : Type 0 where
   pub lawful : legal t ≡ true
   pub roomy : 256 ≤ room
-  pub known : entry_of id t ≡ some e
+  pub known : entry_of id t ≡ Some e
 
 -- ---- a whole exchange: two cards that know each other, with the same top key and key name
 
 pub record Partners (t u : Table) (e f : Entry) : Type 0 where
   pub ours : legal t ≡ true
   pub theirs : legal u ≡ true
-  pub our_entry : entry_of (bare u.own) t ≡ some e
-  pub their_entry : entry_of (bare t.own) u ≡ some f
+  pub our_entry : entry_of (bare u.own) t ≡ Some e
+  pub their_entry : entry_of (bare t.own) u ≡ Some f
   pub same_top : top_of e.top ≡ top_of f.top
   pub same_name : e.top.name ≡ f.top.name
   pub in_step : f.receiving.expected ≤ e.sending.next
@@ -62,8 +61,8 @@ pub record Exchanged (t u : Table) (e : Entry) (q : Request) (room : ℕ) : Type
   pub confirmation : (after_confirmed t u q room).outcome ≡ success [] confirmation
   pub ours : Entry
   pub theirs : Entry
-  pub our_entry : entry_of (bare u.own) (after_confirmed t u q room).table ≡ some ours
-  pub their_entry : entry_of (bare t.own) (after_taken t u q room).table ≡ some theirs
+  pub our_entry : entry_of (bare u.own) (after_confirmed t u q room).table ≡ Some ours
+  pub their_entry : entry_of (bare t.own) (after_taken t u q room).table ≡ Some theirs
   pub phase : ours.sending.phase ≡ confirmed
   pub keys : Keeps q ours.sending.outgoing
   pub same_keys : theirs.receiving.incoming ≡ ours.sending.outgoing
@@ -76,13 +75,13 @@ pub record Steps : Type 0 where
   pub foreign_name_is_I : (t : Table) (room : ℕ) (text id : Text) (m : Ksm) (e : Entry) → Comes t room id e
       → Carries id (bare t.own) (ksm m) text
       → (k : Kd) → KdOf m k → (Ours e k → ⊥)
-      → Tells (bare t.own) id (ascii "I") none none (run t (receive room text)).outcome
+      → Tells (bare t.own) id (ascii "I") None None (run t (receive room text)).outcome
   -- a KD marked P and not of odd parity once deciphered: 4 with K, alone
   pub even_key_is_K : (t : Table) (room : ℕ) (text id : Text) (m : Ksm) (e : Entry) → Comes t room id e
       → Carries id (bare t.own) (ksm m) text
       → ((k : Kd) → KdOf m k → Ours e k)
       → (k : Kd) → KdOf m k → k.p ≡ true → odd (in_clear (bare t.own) e m k) ≡ false
-      → Tells (bare t.own) id (ascii "K") none none (run t (receive room text)).outcome
+      → Tells (bare t.own) id (ascii "K") None None (run t (receive room text)).outcome
   -- then F, M and P are all judged: 4 with all that hold; with P go CTP (ours, expected) and CTR (received)
   pub faults_are_told_together : (t : Table) (room : ℕ) (text id : Text) (m : Ksm) (e : Entry) (set : KeySet)
       (formed sealed counted : Bool) → Comes t room id e
@@ -98,7 +97,7 @@ pub record Steps : Type 0 where
       → GoodKsm (bare t.own) e text m → Accepts (bare t.own) id e m (run t (receive room text))
   -- and no other
   pub accepted_ksm_is_good : (t : Table) (room : ℕ) (text id : Text) (m : Ksm) (e : Entry)
-      → Carries id (bare t.own) (ksm m) text → entry_of id t ≡ some e
+      → Carries id (bare t.own) (ksm m) text → entry_of id t ≡ Some e
       → (run t (receive room text)).outcome.answer ≡ 0 → GoodKsm (bare t.own) e text m
   -- ---- an RSM
   -- not waiting, 5
@@ -109,14 +108,14 @@ pub record Steps : Type 0 where
   pub bad_rsm_is_M : (t : Table) (room : ℕ) (text id : Text) (m : Rsm) (e : Entry) → Comes t room id e
       → Carries id (bare t.own) (rsm m) text
       → e.sending.phase ≡ waiting → (Sealed e.sending.outgoing text m.mac → ⊥)
-      → Tells (bare t.own) id (ascii "M") none none (run t (receive room text)).outcome
+      → Tells (bare t.own) id (ascii "M") None None (run t (receive room text)).outcome
   -- otherwise 0, phase 2
   pub good_rsm_is_taken : (t : Table) (room : ℕ) (text id : Text) (m : Rsm) (e : Entry) → Comes t room id e
       → Carries id (bare t.own) (rsm m) text
       → e.sending.phase ≡ waiting → Sealed e.sending.outgoing text m.mac → Confirms id e (run t (receive room text))
   -- and no other
   pub taken_rsm_is_good : (t : Table) (room : ℕ) (text id : Text) (m : Rsm) (e : Entry)
-      → Carries id (bare t.own) (rsm m) text → entry_of id t ≡ some e
+      → Carries id (bare t.own) (rsm m) text → entry_of id t ≡ Some e
       → (run t (receive room text)).outcome.answer ≡ 0
       → (e.sending.phase ≡ waiting) × Sealed e.sending.outgoing text m.mac
   -- ---- an ESM
@@ -138,7 +137,7 @@ pub record Steps : Type 0 where
       → run t (receive room text) ≡ record { outcome = success [] (service m.svr); table = t }
   pub option_is_O : (t : Table) (room : ℕ) (text id : Text) (c : Class) (w : Text) (e : Entry) → Comes t room id e
       → Carries id (bare t.own) (option c w) text
-      → Tells (bare t.own) id (ascii "O") none none (run t (receive room text)).outcome
+      → Tells (bare t.own) id (ascii "O") None None (run t (receive room text)).outcome
   -- ---- build a KSM: 7, 8, 11, 12
   pub waiting_is_7 : (t : Table) (room : ℕ) (id : Text) (q : Request) (e : Entry) → Comes t room id e
       → e.sending.phase ≡ waiting → (run t (about id (build_ksm room q))).outcome ≡ refusal 7
@@ -155,11 +154,11 @@ pub record Steps : Type 0 where
       → GoodRequest e q → Builds (bare t.own) id e q (run t (about id (build_ksm room q)))
   -- and no other
   pub built_request_is_good : (t : Table) (room : ℕ) (id : Text) (q : Request) (e : Entry)
-      → entry_of id t ≡ some e → (run t (about id (build_ksm room q))).outcome.answer ≡ 0 → GoodRequest e q
+      → entry_of id t ≡ Some e → (run t (about id (build_ksm room q))).outcome.answer ≡ 0 → GoodRequest e q
   -- ---- give up: 5, else phase 3 and keys wiped
-  pub give_up_in_vain : (t : Table) (id : Text) (e : Entry) → legal t ≡ true → entry_of id t ≡ some e
+  pub give_up_in_vain : (t : Table) (id : Text) (e : Entry) → legal t ≡ true → entry_of id t ≡ Some e
       → (e.sending.phase ≡ waiting → ⊥) → (run t (about id give_up)).outcome ≡ refusal 5
-  pub give_up_breaks : (t : Table) (id : Text) (e : Entry) → legal t ≡ true → entry_of id t ≡ some e
+  pub give_up_breaks : (t : Table) (id : Text) (e : Entry) → legal t ≡ true → entry_of id t ≡ Some e
       → e.sending.phase ≡ waiting → Breaks id e e.sending.next (run t (about id give_up))
   -- ---- what one card builds the other accepts, and its reply is taken: both hold the keys
   pub exchange : (t u : Table) (e f : Entry) (q : Request) (room : ℕ) → Partners t u e f → GoodRequest e q → Sized q

@@ -1,6 +1,5 @@
 -- The control words of the steps.
-use Rattle.std.specs.Prelude.{Bool, true, false, ◌||◌, List, [], ◌∷◌}
-use Rattle.std.proofs.Math.Option.{Option, none, some}
+use Rattle.std.specs.Prelude.{Bool, true, false, ◌||◌, List, [], ◌∷◌, Option, None, Some}
 
 infix 5 in_case◌then◌else◌
 unfoldable pub in_case◌then◌else◌ : {A : Type 0} → Bool → A → A → A
@@ -9,8 +8,8 @@ in_case false then a else b = b
 
 -- what is there, and of that a test holds
 unfoldable pub some_has : {A : Type 0} → (A → Bool) → Option A → Bool
-some_has f none = false
-some_has f (some a) = f a
+some_has f None = false
+some_has f (Some a) = f a
 
 -- of one of these a test holds
 unfoldable pub any : {A : Type 0} → (A → Bool) → List A → Bool

@@ -1,4 +1,5 @@
-// The letters of an error that the card finds, each as its bit.
+// The letters of an error that the card finds, each as its bit: a set of them is a number of nine bits, as ERF has it and as
+// `letters_of` of csm/specs/Fields spells it.
 
 // Format: an IV that is not E or P and 16 hex digits, an EDK that is no date.
 pub const F: u64 = 4;

@@ -1,11 +1,16 @@
 // What a host asks for when it has a key message built, as it hands it over: the request's 74 bytes, field by field; the room
-// for a reply, and the letters of an error.
+// for a reply, the letters of an error, and why a call is refused.
 #![tactic(auto)]
+
+ghost use Rattle.std.specs.Prelude.{◌≡◌};
+ghost use Rattle.calls.specs.Refusal as refusals;
 
 pub mod letters;
 
 // Less reply room is 6.
 pub const ROOM: usize = 256;
+
+// A request is kept in numbers, as they come: each is judged, and `malformed` of specs/Build answers 12 for one that is none.
 
 // A data key of a request: the key, flags (bit 0: marked P, bit 1: IDK1 written, bit 2: IDK2 written), the name for IDK1.
 #[derive(Clone, Copy)]
@@ -33,4 +38,42 @@ pub struct Request {
     pub dated: u8,
     pub date: Date,
     pub notarized: u8,
+}
+
+// Why a call is refused. Of the paper's answers these are all but 0, which is done, and 4, an error found in a message.
+#[derive(Clone, Copy, PartialEq, Eq)]
+pub enum Refusal {
+    // text not a message of this paper
+    NoMessage = 1,
+    // RCV is not us
+    ForAnother = 2,
+    // partner not in the table
+    NoPartner = 3,
+    // nothing is waiting
+    NothingWaiting = 5,
+    // reply room under 256
+    NoRoom = 6,
+    // a key message is already waiting
+    AlreadyWaiting = 7,
+    // the last count is used up
+    CountUsedUp = 8,
+    // 64 entries in use
+    TableFull = 9,
+    // identity malformed, our own, or taken
+    BadIdentity = 10,
+    // a key is not of odd parity
+    EvenKey = 11,
+    // a field of the call is malformed
+    Malformed = 12,
+    // our identity, the table or the entry is not legal
+    Illegal = 13,
+}
+
+impl Refusal {
+    // The paper's number of it.
+    pub fn number(self) -> u32
+        ensures { result ≡ refusals.number self }
+    {
+        self as u32
+    }
 }

@@ -1,15 +1,15 @@
 -- The way of a call over an image is the call on the image's table.
+use Rattle.std.specs.Prelude.{Option, None, Some}
 use mathlib.Core.Path.{◌≡◌, refl, sym, ap, ◌∙◌}
 use mathlib.Core.Bool.{Bool, true, false, cond, not, ◌&&◌, true≢false}
 use mathlib.Core.List.{List, ◌∷◌}
 use mathlib.Core.Logic.{⊎_elim}
-use mathlib.Core.Option.{Option, none, some}
 use Prim.Native.Nat.{ℕ}
 use native.Mathlib.Omega.{arith}
 use lib.Dec.{eqb, ltb}
 use lib.ListN.{length, get_or, set}
 use lib.Seq.{set_out}
-use borrow.Author.Tests.{ltb-true, ltb-false, eqb-false}
+use borrow.Author.Tests.{ltb-true, ltb-false}
 use Rattle.octets.specs.Text.{Text, same}
 use Rattle.octets.specs.Part.{bare, found}
 use Rattle.octets.proofs.Firsts.{holds_first}
@@ -35,37 +35,38 @@ use Rattle.sight.specs.declared.aims.Act.{Act}
 use Rattle.sight.specs.declared.aims.Act.TheVariants.{Receive, BuildKsm, BuildRsi, GiveUp, Remove, Ask, Load}
 use Rattle.sight.specs.declared.aims.Aim.{Aim}
 use Rattle.sight.specs.declared.Sight.{Sight}
+use Rattle.calls.specs.declared.Refusal.TheVariants.{ForAnother}
+use Rattle.sight.specs.Sight.{entry_in}
 use Rattle.sight.specs.Aim.{at_partner, of_reading, aim_of}
 use Rattle.sight.specs.Aim as aims
 use Rattle.sight.specs.Asked.{call_of}
 use Rattle.turn.specs.Way as way
 use Rattle.turn.specs.Way.{refusal as refusal_of, turn, take}
-use Rattle.turn.proofs.Acting.{way_refused}
 use Rattle.turn.proofs.Ways.{way_ends}
 use Rattle.card.specs.Over.{outcome_over, image_over, Called}
 use Rattle.card.specs.Claims.{InPlace}
-use Rattle.card.specs.Ways.{ours, aim, sought, blind, seen, sighted, turn_in, put_in, Changed}
+use Rattle.card.specs.Ways.{ours, aim, sought, blind, seen, sighted, place, is_refusal, turn_in, put_in, Changed}
 use Rattle.card.proofs.Tables.{lawful_table, encode_is, agrees}
 use Rattle.card.proofs.Lasting.{take_lawful}
-use Rattle.card.proofs.Seeing.{aim_named, seen_is, sees, slot_full}
+use Rattle.card.proofs.Seeing.{aim_named, sees, seen_entry, place_is, put_at, slot_full}
 
 -- a legal image is that of the table that its bytes hold
-pub table_read : (image : Text) → found (decode image) ≡ true → decode image ≡ some (table_in image)
+pub table_read : (image : Text) → found (decode image) ≡ true → decode image ≡ Some (table_in image)
 unfolding decode
 table_read image = go (legal (table_in image) && same (encode (table_in image)) image)
   where
-    go : (b : Bool) → found (cond b (some (table_in image)) none) ≡ true
-        → cond b (some (table_in image)) none ≡ some (table_in image)
+    go : (b : Bool) → found (cond b (Some (table_in image)) None) ≡ true
+        → cond b (Some (table_in image)) None ≡ Some (table_in image)
     go true h = refl
     go false h = absurd (true≢false (sym h))
 
 -- no free slot is sought in place
 by_text : (own : Text) (o : Option Reading) → (of_reading own o).vacant ≡ false
 unfolding of_reading
-by_text own none = refl
-by_text own (some r) = go (not (same r.rcv own))
+by_text own None = refl
+by_text own (Some r) = go (not (same r.rcv own))
   where
-    go : (b : Bool) → (cond b (aims.refused own 2) (at_partner own r.org)).vacant ≡ false
+    go : (b : Bool) → (cond b (aims.refused own ForAnother) (at_partner own r.org)).vacant ≡ false
     go true = refl
     go false = refl
 
@@ -96,64 +97,62 @@ module _ (q : Act) (image who text : Text) (room : ℕ) where
   abbrev t : Table
   t = table_in image
 
-  module _ (d : decode image ≡ some (table_in image)) where
+  module _ (d : decode image ≡ Some (table_in image)) where
     -- what it gives, and the slots with the entry put back
-    pub ends : (u.outcome ≡ (run t c).outcome) × (set t.slots s.at u.entry ≡ (run t c).table.slots)
+    pub ends : (u.outcome ≡ (run t c).outcome) × (set t.slots (place s) u.entry ≡ (run t c).table.slots)
     unfolding table_in
     ends =
         let z = way_ends (bare t.own) t.slots q who text room s
         (sees image t d a (aim_named q (ours image) who text)) in
         let g = agrees t (lawful_table image t d) c in (
           z.0 ∙ ap (λ (x : After). x.outcome) g,
-          z.1 ∙ ap (λ (x : After). x.table.slots) g,
+          sym (put_at image t d a (aim_named q (ours image) who text) u.entry) ∙ z.1 ∙ ap (λ (x : After). x.table.slots) g,
         )
 
-    pub table_is : holding t (set t.slots s.at u.entry) ≡ (run t c).table
+    pub table_is : holding t (set t.slots (place s) u.entry) ≡ (run t c).table
     table_is = λ j. record { own = sym ((call.claims).own_stays t c) j; slots = ends.1 j }
 
-    at_is : s.at ≡ sought a image
-    at_is = ap (λ (x : Sight). x.at) (seen_is image t d a)
+    at_is : (place s) ≡ sought a image
+    at_is = place_is image t d a (aim_named q (ours image) who text)
 
     -- in place: the entry that was found is a partner's, and a legal one is put back
     module _ (p : InPlace c) where
       vacant_no : a.vacant ≡ false
       vacant_no = not_vacant q (ours image) who text room p
 
-      old_full : ltb s.at 64 ≡ true → is_empty (get_or t.slots s.at empty) ≡ false
+      old_full : ltb (place s) 64 ≡ true → is_empty (get_or t.slots (place s) empty) ≡ false
       old_full h =
           ap (λ (k : ℕ). is_empty (get_or t.slots k empty)) at_is
           ∙ slot_full image t d a (aim_named q (ours image) who text) vacant_no (ap (λ (k : ℕ). ltb k 64) (sym at_is) ∙ h)
 
-      old_lawful : ltb s.at 64 ≡ true → partner.legal (get_or t.slots s.at empty) ≡ true
+      old_lawful : ltb (place s) 64 ≡ true → partner.legal (get_or t.slots (place s) empty) ≡ true
       old_lawful h =
           ⊎_elim (λ e. absurd (true≢false (sym empty_is ∙ ap is_empty (sym e) ∙ old_full h))) (λ w. w.0)
-          (stored_at t.slots (decoded image t d).stored s.at)
+          (stored_at t.slots (decoded image t d).stored (place s))
 
-      entry_is : s.entry ≡ get_or t.slots s.at empty
+      entry_is : entry_in s.slot ≡ get_or t.slots (place s) empty
       unfolding table_in
-      entry_is =
-          ap (λ (x : Sight). x.entry) (seen_is image t d a)
-          ∙ ap (λ (k : ℕ). get_or t.slots k empty) (sym at_is)
+      entry_is = seen_entry image t d a (aim_named q (ours image) who text)
 
-      new_full : ltb s.at 64 ≡ true → is_empty u.entry ≡ false
+      new_full : ltb (place s) 64 ≡ true → is_empty u.entry ≡ false
       unfolding table_in
       new_full h =
           legal_full u.entry
           (take_lawful (ours image) a s q text who room (own_name t (lawful_table image t d))
           (ap partner.legal entry_is ∙ old_lawful h) p)
 
-      pub stored : put_slot s.at u.entry image ≡ encode (run t c).table
+      pub stored : put_slot (place s) u.entry image ≡ encode (run t c).table
       unfolding put_slot
-      stored = go (ltb s.at 64) refl
+      stored = go (ltb (place s) 64) refl
         where
-          go : (b : Bool) → ltb s.at 64 ≡ b → put_slot s.at u.entry image ≡ encode (run t c).table
+          go : (b : Bool) → ltb (place s) 64 ≡ b → put_slot (place s) u.entry image ≡ encode (run t c).table
           go true h =
-              put_slot_is image t d s.at u.entry (ltb-true s.at 64 h) (old_full h) (new_full h) ∙ ap encode table_is
+              put_slot_is image t d (place s) u.entry (ltb-true (place s) 64 h) (old_full h) (new_full h) ∙ ap encode table_is
           go false h =
               let n = (rules t (lawful_table image t d)).slots_64 in
-              let k = ltb-false s.at 64 h in
-              ap (λ (b : Bool). cond b (put_back (slot_place s.at image) u.entry image) image) h ∙ sym (encode_is image t d)
-              ∙ ap (λ (l : List Entry). encode (holding t l)) (sym (set_out t.slots s.at u.entry (omega arith)))
+              let k = ltb-false (place s) 64 h in
+              ap (λ (b : Bool). cond b (put_back (slot_place (place s) image) u.entry image) image) h ∙ sym (encode_is image t d)
+              ∙ ap (λ (l : List Entry). encode (holding t l)) (sym (set_out t.slots (place s) u.entry (omega arith)))
               ∙ ap encode table_is
 
   -- what is no image: 13, and nothing is put anywhere
@@ -181,46 +180,45 @@ module _ (q : Act) (image who text : Text) (room : ℕ) where
       go false h = ap (λ (r : Turn). r.outcome) (refused_13 h) ∙ rw (outcome_over, table_missing image h)
 
   -- and so is the image, in place: the turned entry put back
-  put_is : InPlace c → put_slot s.at u.entry image ≡ image_over image c
+  put_is : InPlace c → put_slot (place s) u.entry image ≡ image_over image c
   unfolding image_over put_slot
   put_is p = go (found (decode image)) refl
     where
-      go : (b : Bool) → found (decode image) ≡ b → put_slot s.at u.entry image ≡ image_over image c
+      go : (b : Bool) → found (decode image) ≡ b → put_slot (place s) u.entry image ≡ image_over image c
       go true h = let d = table_read image h in stored d p ∙ rw (image_over, d)
       go false h =
-          ap (λ (x : Sight). put_slot x.at u.entry image) (blind_is h) ∙ rw (image_over, table_missing image h)
+          ap (λ (x : Sight). put_slot (place x) u.entry image) (blind_is h) ∙ rw (image_over, table_missing image h)
 
-  -- or, with a refusal before the turn, as it was
-  kept_is : (refusal_of a s q text room ≡ 0 → ⊥) → image ≡ image_over image c
+  -- or, with a refusal, as it was
+  kept_is : (u.outcome.answer ≡ 0 → ⊥) → image ≡ image_over image c
   unfolding image_over
   kept_is n = go (found (decode image)) refl
     where
       go : (b : Bool) → found (decode image) ≡ b → image ≡ image_over image c
       go true h =
           let d = table_read image h in
-          let o : (run t c).outcome.answer ≡ refusal_of a s q text room =
-          sym (ap (λ (x : Outcome). x.answer) (ends d).0)
-          ∙ ap (λ (r : Turn). r.outcome.answer) (way_refused (ours image) a s q text room _ refl n) in
+          let o : (run t c).outcome.answer ≡ u.outcome.answer = sym (ap (λ (x : Outcome). x.answer) (ends d).0) in
           sym (encode_is image t d) ∙ ap encode (sym ((call.claims).unless_done_nothing_changes t c (λ z. n (sym o ∙ z))))
           ∙ rw (image_over, d)
       go false h = rw (image_over, table_missing image h)
 
   image_is : InPlace c → put_in a image q text room ≡ image_over image c
-  image_is p = go (eqb (refusal_of a s q text room) 0) refl
+  image_is p = go (is_refusal u.outcome.answer) refl
     where
-      go : (b : Bool) → eqb (refusal_of a s q text room) 0 ≡ b → put_in a image q text room ≡ image_over image c
-      go true h = ap (λ (b : Bool). cond b (put_slot s.at u.entry image) image) h ∙ put_is p
-      go false h =
-          ap (λ (b : Bool). cond b (put_slot s.at u.entry image) image) h ∙ kept_is (eqb-false (refusal_of a s q text room) 0 h)
+      go : (b : Bool) → is_refusal u.outcome.answer ≡ b → put_in a image q text room ≡ image_over image c
+      go true h =
+          ap (λ (b : Bool). cond b image (put_slot (place s) u.entry image)) h
+          ∙ kept_is (λ z. true≢false (sym h ∙ ap is_refusal z))
+      go false h = ap (λ (b : Bool). cond b image (put_slot (place s) u.entry image)) h ∙ put_is p
 
 -- a call that changes the image in place
-pub called : (q : Act) (image who text buffer : Text) (r : Report) (image' buffer' : Text)
+pub called : (q : Act) (image who text buffer : Text) (r r' : Report) → r' ≡ r → (image' buffer' : Text)
     → InPlace (call_of q (length buffer) who text) → Changed q image who text buffer r image' buffer'
-    → Called image (call_of q (length buffer) who text) buffer r image' buffer'
-called q image who text buffer r image' buffer' p k =
+    → Called image (call_of q (length buffer) who text) buffer r' image' buffer'
+called q image who text buffer r r' e image' buffer' p k =
     let o = outcome_is q image who text (length buffer) in
     record {
-      told = k.told ∙ ap report o;
+      told = e ∙ k.turns.told ∙ ap report o;
       stored = k.stored ∙ image_is q image who text (length buffer) p;
-      reply = k.reply ∙ ap (λ (x : Outcome). replied x buffer) o;
+      reply = k.turns.reply ∙ ap (λ (x : Outcome). replied x buffer) o;
     }

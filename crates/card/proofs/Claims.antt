@@ -1,8 +1,8 @@
 -- The claims of specs/Claims.antt, proved.
+use Rattle.std.specs.Prelude.{Option, None, Some}
 use mathlib.Core.Path.{◌≡◌, refl, ap, ◌∙◌}
 use mathlib.Core.Bool.{true, false}
 use mathlib.Core.List.{List, []}
-use mathlib.Core.Option.{Option, none, some}
 use Prim.Native.Nat.{ℕ, ◌≤◌}
 use native.Mathlib.Omega.{arith}
 use lib.Dec.{eqb}
@@ -39,16 +39,16 @@ use Rattle.card.proofs.Staying.{run_holds, run_long}
 
 -- where the bytes are no image, and where they are
 by_image : (image : Text) (c : Call) (P : Outcome → Text → Type 0) → P (refusal 13) image
-    → ((t : Table) → decode image ≡ some t → P (run t c).outcome (encode (run t c).table))
+    → ((t : Table) → decode image ≡ Some t → P (run t c).outcome (encode (run t c).table))
     → P (outcome_over image c) (image_over image c)
 unfolding outcome_over image_over
 by_image image c P n s = go (decode image) refl
   where
     go : (o : Option Table) → decode image ≡ o
-        → P (elim o as (λ x. Outcome) [ none ↦ refusal 13 | some t ↦ (run t c).outcome ])
-        (elim o as (λ x. Text) [ none ↦ image | some t ↦ encode (run t c).table ])
-    go none d = n
-    go (some t) d = s t d
+        → P (elim o as (λ x. Outcome) [ None ↦ refusal 13 | Some t ↦ (run t c).outcome ])
+        (elim o as (λ x. Text) [ None ↦ image | Some t ↦ encode (run t c).table ])
+    go None d = n
+    go (Some t) d = s t d
 
 bare : (image : Text) (c : Call) → ((outcome_over image c).answer ≡ 0 → ⊥) → ((outcome_over image c).answer ≡ 4 → ⊥)
     → outcome_over image c ≡ refusal (outcome_over image c).answer
@@ -61,15 +61,15 @@ unfolding replied
 untouched o n buffer p = ap (λ (x : Outcome). replied x buffer) p
 
 -- the image of the table after a call reads as that table
-pub written_read : (image : Text) (t : Table) (c : Call) → all_octets image ≡ true → Of64Bits c → decode image ≡ some t
-    → decode (encode (run t c).table) ≡ some (run t c).table
+pub written_read : (image : Text) (t : Table) (c : Call) → all_octets image ≡ true → Of64Bits c → decode image ≡ Some t
+    → decode (encode (run t c).table) ≡ Some (run t c).table
 written_read image t c o f d =
     let l = lawful_table image t d in
     (stored.claims).write_then_read (run t c).table ((call.claims).stays_legal t c l)
     (run_holds t l ((stored.claims).read_is_held image t o d) c f)
 
-over_read : (image : Text) (t : Table) (c : Call) → all_octets image ≡ true → Of64Bits c → decode image ≡ some t
-    → decode (image_over image c) ≡ some (run t c).table
+over_read : (image : Text) (t : Table) (c : Call) → all_octets image ≡ true → Of64Bits c → decode image ≡ Some t
+    → decode (image_over image c) ≡ Some (run t c).table
 unfolding image_over
 over_read image t c o f d = rw (image_over, d) (written_read image t c o f d)
 
@@ -77,14 +77,14 @@ over_read image t c o f d = rw (image_over, d) (written_read image t c o f d)
 
 -- 13, or a step on the table
 by_table : (image : Text) (P : Outcome → Type 0) (f : Table → Outcome) → P (refusal 13)
-    → ((t : Table) → decode image ≡ some t → P (f t))
-    → P (elim (decode image) [ none ↦ refusal 13 | some t ↦ f t ])
+    → ((t : Table) → decode image ≡ Some t → P (f t))
+    → P (elim (decode image) [ None ↦ refusal 13 | Some t ↦ f t ])
 by_table image P f n s = go (decode image) refl
   where
     go : (o : Option Table) → decode image ≡ o
-        → P (elim o as (λ x. Outcome) [ none ↦ refusal 13 | some t ↦ f t ])
-    go none d = n
-    go (some t) d = s t d
+        → P (elim o as (λ x. Outcome) [ None ↦ refusal 13 | Some t ↦ f t ])
+    go None d = n
+    go (Some t) d = s t d
 
 refused_so : (n : ℕ) → n ≤ 13 → DoneOrRefused (refusal n)
 refused_so n h = record { answer = h; bare = λ k. refl }
@@ -107,8 +107,8 @@ ask_so image room id =
     by_case DoneOrRefused _ _ _ (λ _. refused_so _ (omega arith)) (λ _. go (entry_of id t))
   where
     go : (o : Option Entry) → DoneOrRefused (body_of o)
-    go none = refused_so _ (omega arith)
-    go (some e) = done_so _
+    go None = refused_so _ (omega arith)
+    go (Some e) = done_so _
 
 start_so : (own : Text) (room : ℕ) → DoneOrRefused (start_over own room)
 unfolding start_over
@@ -116,9 +116,9 @@ start_so own room =
     by_case DoneOrRefused _ _ _ (λ _. refused_so _ (omega arith)) (λ _. go (calls.start own))
   where
     go : (o : Option Table)
-        → DoneOrRefused (elim o as (λ x. Outcome) [ none ↦ refusal 10 | some t ↦ success (encode t) nothing ])
-    go none = refused_so _ (omega arith)
-    go (some t) = done_so _
+        → DoneOrRefused (elim o as (λ x. Outcome) [ None ↦ refusal 10 | Some t ↦ success (encode t) nothing ])
+    go None = refused_so _ (omega arith)
+    go (Some t) = done_so _
 
 -- load and remove on a table
 load_runs_so : (t : Table) (id name : Text) (top : Top) → Settled (run t (load id name top))
@@ -131,8 +131,8 @@ load_runs_so t id name top =
     (λ _. refused_so _ (omega arith))
   where
     go : (o : Option (List Entry)) → Settled (after_load t o)
-    go none = refused_so _ (omega arith)
-    go (some slots) = done_so []
+    go None = refused_so _ (omega arith)
+    go (Some slots) = done_so []
 
 remove_runs_so : (t : Table) (id : Text) → Settled (run t (about id remove))
 unfolding run perform at_partner
@@ -141,8 +141,8 @@ remove_runs_so t id =
     (λ _. refused_so _ (omega arith))
   where
     go : (o : Option Entry) → Settled (after_turn t id emptied o)
-    go none = refused_so _ (omega arith)
-    go (some e) = done_so []
+    go None = refused_so _ (omega arith)
+    go (Some e) = done_so []
 
 load_so : (image : Text) (room : ℕ) (id name key : Text) → DoneOrRefused (load_over image room id name key)
 unfolding load_over load_with
@@ -151,8 +151,8 @@ load_so image room id name key =
     by_case DoneOrRefused _ _ _ (λ _. refused_so _ (omega arith)) (λ _. go t (top_in key))
   where
     go : (t : Table) (o : Option Top) → DoneOrRefused (load_with t id name o)
-    go t none = by_case DoneOrRefused _ _ _ (λ _. refused_so _ (omega arith)) (λ _. refused_so _ (omega arith))
-    go t (some top) = deliver_so (run t (load id name top)) (load_runs_so t id name top)
+    go t None = by_case DoneOrRefused _ _ _ (λ _. refused_so _ (omega arith)) (λ _. refused_so _ (omega arith))
+    go t (Some top) = deliver_so (run t (load id name top)) (load_runs_so t id name top)
 
 remove_so : (image : Text) (room : ℕ) (id : Text) → DoneOrRefused (remove_over image room id)
 unfolding remove_over
@@ -167,7 +167,7 @@ refused_new : (n : ℕ) → eqb n 0 ≡ false → NewImage (refusal n)
 refused_new n h k = absurd (eqb-false n 0 h k)
 
 -- the image of the table after a call
-deliver_new : (image : Text) (t : Table) (c : Call) → all_octets image ≡ true → Of64Bits c → decode image ≡ some t
+deliver_new : (image : Text) (t : Table) (c : Call) → all_octets image ≡ true → Of64Bits c → decode image ≡ Some t
     → NewImage (delivering (run t c))
 unfolding delivering
 deliver_new image t c o f d =
@@ -180,8 +180,8 @@ unfolding start_over calls.start
 start_new own room =
     by_case NewImage _ _ _ (λ _. refused_new 6 refl) λ _.
     by_case (λ (o : Option Table). NewImage (elim o as (λ x. Outcome) [
-      | none ↦ refusal 10
-      | some t ↦ success (encode t) nothing
+      | None ↦ refusal 10
+      | Some t ↦ success (encode t) nothing
     ])) _ _ _ (λ n _. ap found ((stored.claims).start_is_legal (name_of own) (filled_filled own n)))
     (λ _. refused_new 10 refl)
 
@@ -192,10 +192,10 @@ load_new image room id name key o k =
     by_table image NewImage _ (refused_new 13 refl) λ t d.
     by_case NewImage _ _ _ (λ _. refused_new 6 refl) (λ _. go t d (top_in key) refl)
   where
-    go : (t : Table) → decode image ≡ some t → (top : Option Top) → top_in key ≡ top
+    go : (t : Table) → decode image ≡ Some t → (top : Option Top) → top_in key ≡ top
         → NewImage (load_with t id name top)
-    go t d none q = by_case NewImage _ _ _ (λ _. refused_new 10 refl) (λ _. refused_new 12 refl)
-    go t d (some top) q = deliver_new image t (load id name top) o (top_fits key top k q) d
+    go t d None q = by_case NewImage _ _ _ (λ _. refused_new 10 refl) (λ _. refused_new 12 refl)
+    go t d (Some top) q = deliver_new image t (load id name top) o (top_fits key top k q) d
 
 remove_new : (image : Text) (room : ℕ) (id : Text) → all_octets image ≡ true → NewImage (remove_over image room id)
 unfolding remove_over

@@ -1,13 +1,15 @@
 -- The calls that write to a lent buffer, on the table of a legal image; and what they leave in the buffer.
+use Rattle.std.specs.Prelude.{Option, None, Some, Result, Ok}
+use Rattle.std.specs.Bool.{then_some}
+use Rattle.std.specs.Option.{ok_or}
 use mathlib.Core.Path.{◌≡◌, refl, sym, ap, ◌∙◌}
 use mathlib.Core.Bool.{Bool, true, false}
 use mathlib.Core.List.{◌++◌}
-use mathlib.Core.Option.{Option, none, some}
 use Prim.Native.Nat.{ℕ, ◌<◌, ◌≤◌}
 use native.Mathlib.Omega.{arith}
-use lib.Dec.{eqb, ltb}
+use lib.Dec.{eqb, ltb, leb}
 use lib.ListN.{length, drop}
-use borrow.Author.Tests.{lt-ltb, le-ltb}
+use borrow.Author.Tests.{lt-ltb, le-ltb, le-leb}
 use Rattle.octets.specs.Text.{Text, is_name}
 use Rattle.keying.specs.declared.Top.{Top}
 use Rattle.partner.specs.declared.Entry.{Entry}
@@ -16,7 +18,7 @@ use Rattle.partner.proofs.Naming.{length_filled}
 use Rattle.partner.specs.Record.{entry_size, entry_bytes, put_entry}
 use Rattle.partner.specs.Table.{Table, legal, started}
 use Rattle.image.specs.Image.{largest, decode, encode}
-use Rattle.image.specs.Results.{delivered, size_delivered}
+use Rattle.image.specs.Results.{delivered, length_delivered}
 use Rattle.image.proofs.Buffers.{delivered_room, started_size}
 use Rattle.calls.specs.Words.{in_case◌then◌else◌}
 use Rattle.calls.specs.Outcome.{Outcome, nothing, refusal, success}
@@ -28,24 +30,26 @@ use Rattle.outcome.specs.Report.{report, replied, plain}
 use Rattle.card.specs.Over.{Written}
 use Rattle.card.specs.Whole.{body_of, ask_over, start_over, delivering, top_in, load_with, load_over}
 use Rattle.card.specs.Whole.{remove_over}
-use Rattle.card.specs.Ways.{top_or_zero, name_or_none}
+use Rattle.calls.specs.declared.Refusal.{Refusal}
+use Rattle.calls.specs.declared.Refusal.TheVariants.{NoRoom}
+use Rattle.card.specs.Ways.{told, top_or_zero, name_or_none}
 
 -- ---- on the table
 
 module _ (image : Text) where
-  pub ask_none : decode image ≡ none → (room : ℕ) (id : Text) → ask_over image room id ≡ refusal 13
+  pub ask_none : decode image ≡ None → (room : ℕ) (id : Text) → ask_over image room id ≡ refusal 13
   unfolding ask_over
   ask_none d room id = rw (ask_over, d)
 
-  pub remove_none : decode image ≡ none → (room : ℕ) (id : Text) → remove_over image room id ≡ refusal 13
+  pub remove_none : decode image ≡ None → (room : ℕ) (id : Text) → remove_over image room id ≡ refusal 13
   unfolding remove_over
   remove_none d room id = rw (remove_over, d)
 
-  pub load_none : decode image ≡ none → (room : ℕ) (id name key : Text) → load_over image room id name key ≡ refusal 13
+  pub load_none : decode image ≡ None → (room : ℕ) (id name key : Text) → load_over image room id name key ≡ refusal 13
   unfolding load_over
   load_none d room id name key = rw (load_over, d)
 
-  module _ (t : Table) (d : decode image ≡ some t) (room : ℕ) where
+  module _ (t : Table) (d : decode image ≡ Some t) (room : ℕ) where
     pub ask_table : (id : Text) → ask_over image room id ≡ (in_case ltb room 256 then refusal 6 else body_of (entry_of id t))
     unfolding ask_over
     ask_table id = rw (ask_over, d)
@@ -86,8 +90,8 @@ none_delivered t false = refl
 pub load_with_is : (t : Table) → legal t ≡ true → (id name : Text) (o : Option Top)
     → load_with t id name o ≡ delivering (run t (load id (name_or_none name o) (top_or_zero o)))
 unfolding load_with run perform loading
-load_with_is t l id name (some top) = refl
-load_with_is t l id name none =
+load_with_is t l id name (Some top) = refl
+load_with_is t l id name None =
     sym (ap delivering (if_true (legal t) _ _ l
     ∙ ap (λ (w : After). in_case bad_identity t id then refuse t 10 else w) (if_true true (refuse t 12) _ refl))
     ∙ none_delivered t (bad_identity t id))
@@ -132,22 +136,27 @@ refused_so o n l l' r p h b = record {
 }
 
 -- an image that there is room for is delivered
-pub delivered_so : (o : Outcome) (s out out' : Text) (n : ℕ) (r : Report) (i : Option Text) → o ≡ success s nothing
-    → i ≡ some s → length s ≤ length out → out' ≡ delivered i out → n ≡ size_delivered i out → r ≡ plain 0 0 n
-    → Written o out r out'
-delivered_so o s out out' n r i p q room b k h =
+pub delivered_so : (o : Outcome) (s out out' : Text) (x : Result ℕ Refusal) (i : Option Text) → o ≡ success s nothing
+    → i ≡ Some s → length s ≤ length out → out' ≡ delivered i out → x ≡ ok_or (length_delivered i out) NoRoom
+    → Written o out (told x) out'
+unfolding length_delivered
+delivered_so o s out out' x i p q room b k =
     let d = delivered_room s out room in
-    written_so o s out out' n r p (k ∙ ap (λ (x : Option Text). size_delivered x out) q ∙ d.1)
-    (b ∙ ap (λ (x : Option Text). delivered x out) q ∙ d.0) h
+    let e : leb (length s) (length out) ≡ true = le-leb (length s) (length out) room in
+    let l : length_delivered (Some s) out ≡ Some (length s) = rw e in
+    let y : x ≡ Ok (length s) = k ∙ ap (λ (j : Option Text). ok_or (length_delivered j out) NoRoom) q
+    ∙ ap (λ (n : Option ℕ). ok_or n NoRoom) l in
+    written_so o s out out' (length s) (told x) p refl (b ∙ ap (λ (j : Option Text). delivered j out) q ∙ d.0) (ap told y)
 
 -- a record that there is room for is put
-pub put_so : (o : Outcome) (e : Entry) (l l' : Text) (n : ℕ) (r : Report) → o ≡ success (entry_bytes e) nothing
-    → length (entry_bytes e) ≡ entry_size → entry_size ≤ length l → l' ≡ (put_entry e l).0 → n ≡ (put_entry e l).1
-    → r ≡ plain 0 0 n → Written o l r l'
+pub put_so : (o : Outcome) (e : Entry) (l l' : Text) (x : Result ℕ Refusal) → o ≡ success (entry_bytes e) nothing
+    → length (entry_bytes e) ≡ entry_size → entry_size ≤ length l → l' ≡ (put_entry e l).0
+    → x ≡ ok_or (then_some (leb entry_size (length l)) entry_size) NoRoom → Written o l (told x) l'
 unfolding put_entry
-put_so o e l l' n r p size room b k h =
+put_so o e l l' x p size room b k =
     let f : ltb (length l) entry_size ≡ false = le-ltb (length l) entry_size room in
     let b' : l' ≡ entry_bytes e ++ drop entry_size l = rw f at b in
-    let k' : n ≡ entry_size = rw f at k in
-    written_so o (entry_bytes e) l l' n r p (k' ∙ sym size)
-    (b' ∙ ap (λ (x : ℕ). entry_bytes e ++ drop x l) (sym size)) h
+    let g : leb entry_size (length l) ≡ true = le-leb entry_size (length l) room in
+    let y : x ≡ Ok entry_size = k ∙ ap (λ (c : Bool). ok_or (then_some c entry_size) NoRoom) g in
+    written_so o (entry_bytes e) l l' entry_size (told x) p (sym size)
+    (b' ∙ ap (λ (n : ℕ). entry_bytes e ++ drop n l) (sym size)) (ap told y)

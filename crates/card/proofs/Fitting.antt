@@ -1,8 +1,8 @@
 -- What a turn leaves of an entry whose fields fit their types fits them too, is legal and has the same identity.
+use Rattle.std.specs.Prelude.{Option, None, Some}
 use mathlib.Core.Path.{◌≡◌, refl}
 use mathlib.Core.Bool.{Bool, true, false, cond, ◌||◌}
 use mathlib.Core.List.{[]}
-use mathlib.Core.Option.{Option, none, some}
 use Prim.Native.Nat.{ℕ, ◌^◌, ◌<◌}
 use Prim.Native.Char.{code}
 use native.Mathlib.Omega.{arith}
@@ -62,8 +62,8 @@ name_octets w h =
     (and_true (all (run_char (code "Z")) w) (within 1 16 (length w)) h).0
 
 named_octets : (o : Option Text) → legal_name o ≡ true → all_octets (named o) ≡ true
-named_octets none h = refl
-named_octets (some w) h = name_octets w h
+named_octets None h = refl
+named_octets (Some w) h = name_octets w h
 
 -- ---- receive
 
@@ -79,11 +79,11 @@ brought_held us e m h = let p = ksm_parts m h in go m.second p.first p.second
 
     go : (o : Option Kd) → kd.legal m.kd ≡ true → maybe_legal (field KD) o ≡ true
         → HeldSet (elim o as (λ x. KeySet) [
-          | none ↦ one_key (brought_key us e m m.kd)
-          | some k ↦ two_keys (brought_key us e m m.kd) (brought_key us e m k)
+          | None ↦ one_key (brought_key us e m m.kd)
+          | Some k ↦ two_keys (brought_key us e m m.kd) (brought_key us e m k)
         ])
-    go none a b = held_one (brought_key us e m m.kd) (held m.kd a)
-    go (some k) a b = held_two (brought_key us e m m.kd) (brought_key us e m k) (held m.kd a) (held k b)
+    go None a b = held_one (brought_key us e m m.kd) (held m.kd a)
+    go (Some k) a b = held_two (brought_key us e m m.kd) (brought_key us e m k) (held m.kd a) (held k b)
 
 module _ (us : Text) (e : Entry) (h : Held e) where
   receive_held : (text : Text) (b : Body) → legal_body b ≡ true → Fits (by_class.receive us e text b)
@@ -98,9 +98,9 @@ module _ (us : Text) (e : Entry) (h : Held e) where
       held_with_sending e _ h (go m.ctp (esm_count m l))
     where
       go : (o : Option ℕ) → maybe_legal (field CTP) o ≡ true
-          → HeldSending (elim o as (λ x. Sending) [ none ↦ given_up e.sending | some x ↦ failed e.sending x ])
-      go none b = held_given_up e.sending h.sending
-      go (some x) b =
+          → HeldSending (elim o as (λ x. Sending) [ None ↦ given_up e.sending | Some x ↦ failed e.sending x ])
+      go None b = held_given_up e.sending h.sending
+      go (Some x) b =
           let k = within_true 1 limit x b in held_failed e.sending x h.sending (omega (arith, k.1))
   receive_held text (option c w) l = h
 
@@ -135,11 +135,11 @@ module _ (us : Text) (e : Entry) (h : Held e) where
   build_rsi_held contents = go (value svr contents)
     where
       go : (o : Option ℕ) → Fits (elim o [
-        | none ↦ refused e 12
-        | some s ↦ done e (print (to_partner us e (rsi (record { svr = s; edc = none })))) nothing
+        | None ↦ refused e 12
+        | Some s ↦ done e (print (to_partner us e (rsi (record { svr = s; edc = None })))) nothing
       ])
-      go none = h
-      go (some s) = h
+      go None = h
+      go (Some s) = h
 
   give_up_held : Fits (building.give_up e)
   unfolding building.give_up
@@ -161,7 +161,7 @@ does_keeps {us} {e} {R} r d l f =
 
 -- each turn of a partner's entry, where our own identity is a name
 module _ (us : Text) (name : is_name us ≡ true) (e : Entry) (l : partner.legal e ≡ true) (h : Held e) where
-  pub receive_keeps : (text : Text) (q : Reading) → read text ≡ some q
+  pub receive_keeps : (text : Text) (q : Reading) → read text ≡ Some q
       → Keeps e (by_class.receive us e text q.body).entry
   receive_keeps text q r =
       let b = (reading_parts q (read_back text q r).0).body in

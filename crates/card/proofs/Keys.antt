@@ -1,8 +1,7 @@
 -- A top key by its bytes.
+use Rattle.std.specs.Prelude.{None, Some}
 use mathlib.Core.Path.{◌≡◌, refl, sym, ap, ◌∙◌, subst}
 use mathlib.Core.Bool.{Bool, true, false}
-use mathlib.Core.List.{[]}
-use mathlib.Core.Option.{none, some}
 use Prim.Native.Nat.{ℕ, ◌-◌, ◌%◌, ◌^◌, ◌<◌, ◌≤◌}
 use native.Mathlib.Omega.{arith}
 use lib.Dec.{eqb, ltb}
@@ -21,17 +20,16 @@ use Rattle.partner.specs.Changes.{left_of, right_of}
 use Rattle.calls.specs.Words.{in_case◌then◌else◌}
 use Rattle.calls.proofs.Tests.{if_true, if_false}
 use Rattle.card.specs.Whole.{top_in}
-use Rattle.card.specs.Ways.{name_or_none, name_with}
 
 module _ (key : Text) (octets : all_octets key ≡ true) where
-  pub top_single : length key ≡ 8 → top_in key ≡ some (Single (number key % 2 ^ 64))
+  pub top_single : length key ≡ 8 → top_in key ≡ Some (Single (number key % 2 ^ 64))
   unfolding top_in
   top_single h =
       if_true (eqb (length key) 8) _ _ (eq-eqb (length key) 8 h)
-      ∙ ap (λ (n : ℕ). some (Single n)) (sym (number_fits key octets (omega arith)))
+      ∙ ap (λ (n : ℕ). Some (Single n)) (sym (number_fits key octets (omega arith)))
 
   pub top_pair : length key ≡ 16
-      → top_in key ≡ some (Pair (number (take 8 key) % 2 ^ 64) (number (take (length key - 8) (drop 8 key)) % 2 ^ 64))
+      → top_in key ≡ Some (Pair (number (take 8 key) % 2 ^ 64) (number (take (length key - 8) (drop 8 key)) % 2 ^ 64))
   unfolding top_in
   top_pair h =
       let n : (length key ≡ 8 → ⊥) = λ e. omega arith in
@@ -43,21 +41,21 @@ module _ (key : Text) (octets : all_octets key ≡ true) where
       (omega (arith, length-take (length key - 8) (drop 8 key)))) in
       if_false (eqb (length key) 8) _ _ (ne_eqb (length key) 8 n)
       ∙ if_true (eqb (length key) 16) _ _ (eq-eqb (length key) 16 h)
-      ∙ ap (λ (x : ℕ). some (Pair x (number (drop 8 key)))) a
-      ∙ ap (λ (x : ℕ). some (Pair (number (take 8 key) % 2 ^ 64) x)) b
+      ∙ ap (λ (x : ℕ). Some (Pair x (number (drop 8 key)))) a
+      ∙ ap (λ (x : ℕ). Some (Pair (number (take 8 key) % 2 ^ 64) x)) b
 
 -- the numbers of eight bytes are of 64 bits
 eight : (s : Text) → all_octets s ≡ true → length s ≤ 8 → number s < 2 ^ 64
 eight s o h = omega (arith, number_fits s o h)
 
-pub top_fits : (key : Text) (top : Top) → all_octets key ≡ true → top_in key ≡ some top
+pub top_fits : (key : Text) (top : Top) → all_octets key ≡ true → top_in key ≡ Some top
     → (left_of top < 2 ^ 64) × (right_of top < 2 ^ 64)
 unfolding top_in in_case◌then◌else◌
 top_fits key top o h = go (eqb (length key) 8) refl (eqb (length key) 16) refl h
   where
     go : (a : Bool) → eqb (length key) 8 ≡ a → (b : Bool) → eqb (length key) 16 ≡ b
-        → (in_case a then some (Single (number key)) else
-        in_case b then some (Pair (number (take 8 key)) (number (drop 8 key))) else none) ≡ some top
+        → (in_case a then Some (Single (number key)) else
+        in_case b then Some (Pair (number (take 8 key)) (number (drop 8 key))) else None) ≡ Some top
         → (left_of top < 2 ^ 64) × (right_of top < 2 ^ 64)
     go true p b q h =
         let k : Single (number key) ≡ top = cc in
@@ -74,24 +72,8 @@ top_fits key top o h = go (eqb (length key) 8) refl (eqb (length key) 16) refl h
     go false p false q h = absurd (none_some _ h)
 
 -- another number of bytes is none
-pub key_of_no_length : (key : Text) → (length key ≡ 8 → ⊥) → (length key ≡ 16 → ⊥) → top_in key ≡ none
+pub key_of_no_length : (key : Text) → (length key ≡ 8 → ⊥) → (length key ≡ 16 → ⊥) → top_in key ≡ None
 unfolding top_in
 key_of_no_length key h k =
     if_false (eqb (length key) 8) _ _ (ne_eqb (length key) 8 h)
     ∙ if_false (eqb (length key) 16) _ _ (ne_eqb (length key) 16 k)
-
--- a key of 8 or 16 bytes has its name, another none
-pub named_8 : (name key : Text) → length key ≡ 8 → name_with name key ≡ name
-unfolding name_with top_in
-named_8 name key h = ap (name_or_none name) (if_true (eqb (length key) 8) _ _ (eq-eqb (length key) 8 h))
-
-pub named_16 : (name key : Text) → (length key ≡ 8 → ⊥) → length key ≡ 16 → name_with name key ≡ name
-unfolding name_with top_in
-named_16 name key n h =
-    ap (name_or_none name)
-    (if_false (eqb (length key) 8) _ _ (ne_eqb (length key) 8 n)
-    ∙ if_true (eqb (length key) 16) _ _ (eq-eqb (length key) 16 h))
-
-pub unnamed : (name key : Text) → top_in key ≡ none → name_with name key ≡ []
-unfolding name_with
-unnamed name key h = ap (name_or_none name) h

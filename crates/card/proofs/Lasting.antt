@@ -1,7 +1,7 @@
 -- A call that changes the image in place leaves a legal entry legal: it can be put back where it was.
+use Rattle.std.specs.Prelude.{Option, None, Some}
 use mathlib.Core.Path.{◌≡◌, refl}
 use mathlib.Core.Bool.{Bool, true, false, cond}
-use mathlib.Core.Option.{Option, none, some}
 use Prim.Native.Nat.{ℕ}
 use lib.Dec.{eqb}
 use Rattle.octets.specs.Text.{Text, is_name}
@@ -19,6 +19,7 @@ use Rattle.sight.specs.declared.aims.Act.{Act}
 use Rattle.sight.specs.declared.aims.Act.TheVariants.{Receive, BuildKsm, BuildRsi, GiveUp, Remove, Ask, Load}
 use Rattle.sight.specs.declared.aims.Aim.{Aim}
 use Rattle.sight.specs.declared.Sight.{Sight}
+use Rattle.sight.specs.Sight.{entry_in}
 use Rattle.request.specs.Request.{request_in}
 use Rattle.sight.specs.Asked.{call_of}
 use Rattle.turn.specs.Way.{refusal, turn, take}
@@ -38,11 +39,11 @@ module _ (own : Text) (named : is_name own ≡ true) (e : Entry) (lawful : partn
 
   read_lawful : (text : Text) (o : Option Reading) → read text ≡ o → Lawful (receive_read own e text o)
   unfolding receive_read
-  read_lawful text none q = lawful
-  read_lawful text (some r) q =
+  read_lawful text None q = lawful
+  read_lawful text (Some r) q =
       does_lawful _ (receive_does own e named lawful text r.body (reading_parts r (read_back text r q).0).body)
 
-  turn_lawful : (a : Act) (id : Name) (text who : Text) (room : ℕ) → InPlace (call_of a room who text)
+  turn_lawful : (a : Act) (id : Option Name) (text who : Text) (room : ℕ) → InPlace (call_of a room who text)
       → Lawful (turn own id e a text room)
   unfolding call_of turn receive build_ksm build_rsi
   turn_lawful Receive id text who room p =
@@ -58,13 +59,13 @@ module _ (own : Text) (named : is_name own ≡ true) (e : Entry) (lawful : partn
 
 -- a refusal leaves it as it was
 pub take_lawful : (own : Text) (a : Aim) (s : Sight) (q : Act) (text who : Text) (room : ℕ) → is_name own ≡ true
-    → partner.legal s.entry ≡ true → InPlace (call_of q room who text)
+    → partner.legal (entry_in s.slot) ≡ true → InPlace (call_of q room who text)
     → partner.legal (take own a s q text room).entry ≡ true
 unfolding take
 take_lawful own a s q text who room n l p = go (eqb (refusal a s q text room) 0)
   where
     go : (b : Bool)
-        → Lawful (cond b (turn own a.partner s.entry q text room)
-        (refused s.entry (refusal a s q text room)))
-    go true = turn_lawful own n s.entry l q a.partner text who room p
+        → Lawful (cond b (turn own a.partner (entry_in s.slot) q text room)
+        (refused (entry_in s.slot) (refusal a s q text room)))
+    go true = turn_lawful own n (entry_in s.slot) l q a.partner text who room p
     go false = l

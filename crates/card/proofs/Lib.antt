@@ -5,11 +5,11 @@ pub mod Delivering
 pub mod Staying
 pub mod Lasting
 pub mod Seeing
+pub mod Lookups
 pub mod Calling
 pub mod Whole
 pub mod Roomed
 pub mod Ends
-pub mod Starting
 pub mod Orders
 pub mod Claims
 pub mod Determined

@@ -1,10 +1,10 @@
 -- The order of the answers over the stored image: that of the calls on its table.
+use Rattle.std.specs.Prelude.{Option, None, Some}
 use mathlib.Core.Path.{◌≡◌, refl, sym, ap, ◌∙◌}
 use mathlib.Core.Bool.{Bool, true, false, cond, true≢false}
 use mathlib.Core.List.Memᴰ
 use mathlib.Core.List.{List, [], ◌∷◌, Memᴰ}
 use mathlib.Core.Logic.{◌⊎◌, inl, inr}
-use mathlib.Core.Option.{Option, none, some}
 use Prim.Native.Nat.{ℕ, suc, ◌≤◌, ◌<◌}
 use native.Mathlib.Omega.{arith}
 use lib.Dec.{eqb}
@@ -38,12 +38,12 @@ use Rattle.card.proofs.Delivering.{start_short, start_malformed, start_done}
 
 -- ---- every call
 
-thirteen : (image : Text) (c : Call) → decode image ≡ none → outcome_over image c ≡ refusal 13
+thirteen : (image : Text) (c : Call) → decode image ≡ None → outcome_over image c ≡ refusal 13
 unfolding outcome_over
 thirteen image c h = rw (outcome_over, h)
 
 -- a call that is refused on the table
-refused : (image : Text) (t : Table) (c : Call) (n : ℕ) → decode image ≡ some t → run t c ≡ refuse t n
+refused : (image : Text) (t : Table) (c : Call) (n : ℕ) → decode image ≡ Some t → run t c ≡ refuse t n
     → outcome_over image c ≡ refusal n
 unfolding outcome_over
 refused image t c n d h = rw (outcome_over, d) (ap (λ (a : After). a.outcome) h)
@@ -83,7 +83,7 @@ used_all (f ∷ slots) u = go (is_empty f) (u f (Memᴰ.head refl)) (used_all sl
 
 -- ---- load and remove
 
-module _ (image : Text) (t : Table) (d : decode image ≡ some t) where
+module _ (image : Text) (t : Table) (d : decode image ≡ Some t) where
   slots_64 : length t.slots ≡ 64
   slots_64 = (rules t (lawful_table image t d)).slots_64
 
@@ -111,23 +111,23 @@ module _ (image : Text) (t : Table) (d : decode image ≡ some t) where
         is_12 n = load_refused 12 refl (λ o q. refusals.bad_name_is_12 t id _ _ (lawful_table image t d) g (go o))
           where
             go : (o : Option Top) → is_name (name_or_none name o) ≡ false
-            go none = refl
-            go (some top) = n
+            go None = refl
+            go (Some top) = n
 
-        no_key : top_in key ≡ none → load_over image room id name key ≡ refusal 12
+        no_key : top_in key ≡ None → load_over image room id name key ≡ refusal 12
         no_key k =
-            loads none k (refuse t 12) (refusals.bad_name_is_12 t id _ _ (lawful_table image t d) g refl)
+            loads None k (refuse t 12) (refusals.bad_name_is_12 t id _ _ (lawful_table image t d) g refl)
             ∙ undelivered t 12 refl
 
-        module _ (n : is_name name ≡ true) (top : Top) (k : top_in key ≡ some top) where
+        module _ (n : is_name name ≡ true) (top : Top) (k : top_in key ≡ Some top) where
           is_11 : odd_top top ≡ false → load_over image room id name key ≡ refusal 11
           is_11 o =
-              loads (some top) k (refuse t 11) (refusals.even_top_is_11 t id name top (lawful_table image t d) g n o)
+              loads (Some top) k (refuse t 11) (refusals.even_top_is_11 t id name top (lawful_table image t d) g n o)
               ∙ undelivered t 11 refl
 
           is_9 : odd_top top ≡ true → length (identities t.slots) ≡ 64 → load_over image room id name key ≡ refusal 9
           is_9 o f =
-              loads (some top) k (refuse t 9)
+              loads (Some top) k (refuse t 9)
               (refusals.full_is_9 t id name top (lawful_table image t d) g n o
               (all_used t.slots (f ∙ sym slots_64)))
               ∙ undelivered t 9 refl
@@ -138,7 +138,7 @@ module _ (image : Text) (t : Table) (d : decode image ≡ some t) where
               let r = refusals.else_loaded t id name top (lawful_table image t d) g n o
               (λ u. let z = used_all t.slots u in omega arith) in
               ap (λ (x : Outcome). x.answer)
-              (loads (some top) k _ refl ∙ delivers _ (ap (λ (x : Outcome). x.answer) r.done))
+              (loads (Some top) k _ refl ∙ delivers _ (ap (λ (x : Outcome). x.answer) r.done))
 
 -- ---- together
 

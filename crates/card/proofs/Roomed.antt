@@ -1,8 +1,8 @@
 -- Ask, load and remove over an image: 13, 6 where there is no room for what they write, else what the table gives.
+use Rattle.std.specs.Prelude.{Option, None, Some}
 use mathlib.Core.Path.{◌≡◌, refl, sym, ap, ◌∙◌, subst}
 use mathlib.Core.Bool.{Bool, true, false, cond, not}
 use mathlib.Core.List.{[]}
-use mathlib.Core.Option.{Option, none, some}
 use Prim.Native.Nat.{ℕ, ◌^◌, ◌<◌, ◌≤◌}
 use native.Mathlib.Omega.{arith}
 use lib.Dec.{ltb}
@@ -24,11 +24,12 @@ use Rattle.sight.specs.declared.aims.Act.TheVariants.{Remove, Ask, Load}
 use Rattle.sight.specs.declared.aims.Aim.{Aim}
 use Rattle.sight.specs.declared.aims.Act.{Act}
 use Rattle.sight.specs.declared.Sight.{Sight}
+use Rattle.sight.specs.Sight.{entry_in}
 use Rattle.sight.specs.Aim.{at_free_slot, with_room, aim_of}
 use Rattle.turn.specs.Way.{take}
 use Rattle.turn.proofs.Ways.{way_roomed}
 use Rattle.card.specs.Whole.{ask_over, delivering, top_in, load_with, load_over, remove_over}
-use Rattle.card.specs.Ways.{ours, aim, theirs, sought, blind, sighted, seen, turn_in, top_or_zero, top_of, name_with}
+use Rattle.card.specs.Ways.{ours, aim, theirs, sought, blind, sighted, seen, place, turn_in, top_or_zero, top_of, name_with}
 use Rattle.image.proofs.Claims as stored
 use Rattle.card.proofs.Keys.{top_fits}
 use Rattle.card.proofs.Claims.{written_read}
@@ -53,8 +54,8 @@ module _ (q : Act) (image who text : Text) (asks room : ℕ) where
   same_seen = refl
 
   roomed : (s : Sight) → seen a image ≡ s
-      → u ≡ cond (not s.legal) (refused s.entry 13)
-      (cond (ltb room asks) (refused s.entry 6) (take (ours image) (with_room a 0) s q text room))
+      → u ≡ cond (not s.legal) (refused (entry_in s.slot) 13)
+      (cond (ltb room asks) (refused (entry_in s.slot) 6) (take (ours image) (with_room a 0) s q text room))
   roomed s e =
       ap (λ (x : Sight). take (ours image) (with_room a asks) x q text room) (same_seen ∙ e)
       ∙ way_roomed (ours image) a s q text asks room
@@ -70,19 +71,19 @@ module _ (q : Act) (image who text : Text) (asks room : ℕ) where
     no_room : room < asks → u.outcome ≡ refusal 6
     no_room h =
         ap (λ (r : Turn). r.outcome) (roomed (seen a image) refl)
-        ∙ ap (λ (b : Bool). (cond (not b) (refused (seen a image).entry 13)
-        (cond (ltb room asks) (refused (seen a image).entry 6) (take (ours image) (with_room a 0) (seen a image) q text room))).outcome)
+        ∙ ap (λ (b : Bool). (cond (not b) (refused (entry_in (seen a image).slot) 13)
+        (cond (ltb room asks) (refused (entry_in (seen a image).slot) 6) (take (ours image) (with_room a 0) (seen a image) q text room))).outcome)
         lawful_sight
-        ∙ ap (λ (b : Bool). (cond b (refused (seen a image).entry 6) (take (ours image) (with_room a 0) (seen a image) q text room)).outcome)
+        ∙ ap (λ (b : Bool). (cond b (refused (entry_in (seen a image).slot) 6) (take (ours image) (with_room a 0) (seen a image) q text room)).outcome)
         (lt-ltb room asks h)
 
     with_enough : asks ≤ room → with_room a 0 ≡ a → u ≡ turn_in a image q text room
     with_enough h z =
         roomed (seen a image) refl
-        ∙ ap (λ (b : Bool). cond (not b) (refused (seen a image).entry 13)
-        (cond (ltb room asks) (refused (seen a image).entry 6) (take (ours image) (with_room a 0) (seen a image) q text room)))
+        ∙ ap (λ (b : Bool). cond (not b) (refused (entry_in (seen a image).slot) 13)
+        (cond (ltb room asks) (refused (entry_in (seen a image).slot) 6) (take (ours image) (with_room a 0) (seen a image) q text room)))
         lawful_sight
-        ∙ ap (λ (b : Bool). cond b (refused (seen a image).entry 6) (take (ours image) (with_room a 0) (seen a image) q text room))
+        ∙ ap (λ (b : Bool). cond b (refused (entry_in (seen a image).slot) 6) (take (ours image) (with_room a 0) (seen a image) q text room))
         (le-ltb room asks h)
         ∙ ap (λ (x : Aim). take (ours image) x (seen a image) q text room) z
 
@@ -165,7 +166,7 @@ module _ (image id : Text) (room : ℕ) where
       judged_as (remove_table image (table_in image) d room id ∙ long_enough room largest _ h) (remove_judged image d id room))
 
   pub remove_so : (in_room Remove image id [] largest room).outcome.answer ≡ 0 → all_octets image ≡ true
-      → (removed_slot (seen (with_room (aim Remove image id []) largest) image).at image ≡ some removed_image)
+      → (removed_slot (place (seen (with_room (aim Remove image id []) largest) image)) image ≡ Some removed_image)
       × (length removed_image ≤ room)
   unfolding aim_of seen sought theirs
   remove_so h o =
@@ -205,8 +206,8 @@ module _ (image id name key : Text) (room : ℕ) where
 
   pub load_so : (in_room load_asked image id (name_with name key) largest room).outcome.answer ≡ 0
       → all_octets image ≡ true → all_octets key ≡ true
-      → (added_slot (seen (with_room (aim load_asked image id (name_with name key)) largest) image).at
-      (in_room load_asked image id (name_with name key) largest room).entry image ≡ some loaded_image)
+      → (added_slot (place (seen (with_room (aim load_asked image id (name_with name key)) largest) image))
+      (in_room load_asked image id (name_with name key) largest room).entry image ≡ Some loaded_image)
       × (length loaded_image ≤ room)
   unfolding aim_of seen sought theirs top_of
   load_so h o k =
@@ -216,12 +217,12 @@ module _ (image id name key : Text) (room : ℕ) where
       let s = ((stored.claims).image_sizes loaded_image _
       (written_read image (table_in image) (load id (name_with name key) (top_of key)) o (key_fits (top_in key) refl) d)).1 in
       let m = r.1 in (
-        ap (λ (u : Turn). added_slot (seen (at_free_slot (ours image) id) image).at u.entry image) e
+        ap (λ (u : Turn). added_slot (place (seen (at_free_slot (ours image) id) image)) u.entry image) e
             ∙ load_written image d id (name_with name key) (top_of key) room (sym (ap (λ (u : Turn). u.outcome.answer) e) ∙ h),
         omega arith,
       )
     where
       key_fits : (x : Option Top) → top_in key ≡ x
           → (left_of (top_or_zero x) < 2 ^ 64) × (right_of (top_or_zero x) < 2 ^ 64)
-      key_fits none q = (omega arith, omega arith)
-      key_fits (some top) q = top_fits key top k q
+      key_fits None q = (omega arith, omega arith)
+      key_fits (Some top) q = top_fits key top k q

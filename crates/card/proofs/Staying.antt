@@ -1,8 +1,8 @@
 -- What a call leaves in a legal table: entries whose fields fit their types, and an image of the same length.
+use Rattle.std.specs.Prelude.{Option, None, Some}
 use mathlib.Core.Path.{◌≡◌, refl, sym, ap, ◌∙◌, subst}
 use mathlib.Core.Bool.{Bool, true, false, cond}
 use mathlib.Core.List.{List, [], ◌∷◌, ◌++◌}
-use mathlib.Core.Option.{Option, none, some}
 use Prim.Native.Nat.{ℕ, suc, ◌+◌}
 use native.Mathlib.Omega.{arith}
 use lib.ListN.{length, length-append}
@@ -37,11 +37,11 @@ use Rattle.card.proofs.Tables.{lawful_table, encode_is}
 
 -- ---- rows
 
-pub find_held : (id : Text) (slots : List Entry) (e : Entry) → AllHeld slots → find id slots ≡ some e → Held e
+pub find_held : (id : Text) (slots : List Entry) (e : Entry) → AllHeld slots → find id slots ≡ Some e → Held e
 find_held id [] e h q = absurd (none_some _ q)
 find_held id (f ∷ slots) e (k, h) q = go (same f.identity.bytes id) (λ r. find_held id slots e h r) q
   where
-    go : (b : Bool) → (find id slots ≡ some e → Held e) → cond b (some f) (find id slots) ≡ some e → Held e
+    go : (b : Bool) → (find id slots ≡ Some e → Held e) → cond b (Some f) (find id slots) ≡ Some e → Held e
     go true r q = subst Held (some_inj q) k
     go false r q = r q
 
@@ -53,16 +53,16 @@ put_held id x (e ∷ slots) k (j, h) = go (same e.identity.bytes id) (put_held i
     go true r = (k, h)
     go false r = (j, r)
 
-place_held : (x : Entry) (slots m : List Entry) → Held x → AllHeld slots → into_free_slot x slots ≡ some m → AllHeld m
+place_held : (x : Entry) (slots m : List Entry) → Held x → AllHeld slots → into_free_slot x slots ≡ Some m → AllHeld m
 place_held x [] m k h q = absurd (none_some _ q)
 place_held x (e ∷ slots) m k (j, h) q =
     go (is_empty e) (into_free_slot x slots) (λ n r. place_held x slots n k h r) q
   where
-    go : (b : Bool) (o : Option (List Entry)) → ((n : List Entry) → o ≡ some n → AllHeld n)
-        → cond b (some (x ∷ slots)) (behind e o) ≡ some m → AllHeld m
+    go : (b : Bool) (o : Option (List Entry)) → ((n : List Entry) → o ≡ Some n → AllHeld n)
+        → cond b (Some (x ∷ slots)) (behind e o) ≡ Some m → AllHeld m
     go true o r q = subst AllHeld (some_inj q) (k, h)
-    go false none r q = absurd (none_some _ q)
-    go false (some n) r q = subst AllHeld (some_inj q) (j, r n refl)
+    go false None r q = absurd (none_some _ q)
+    go false (Some n) r q = subst AllHeld (some_inj q) (j, r n refl)
 
 -- ---- tables
 
@@ -76,16 +76,16 @@ module _ (t : Table) (lawful : legal t ≡ true) (all : AllHeld t.slots) where
   partner_holds id turn keeps = go (entry_of id t) refl
     where
       go : (o : Option Entry) → entry_of id t ≡ o → Holds (after_turn t id turn o)
-      go none q = all
-      go (some e) q =
+      go None q = all
+      go (Some e) q =
           let k = entry_held t id e q in
           put_held (filled id) (turn e).entry t.slots
           (keeps e (held_legal t id e lawful k) (find_held (filled id) t.slots e all k.found)) all
 
   receive_holds : (text : Text) (o : Option Reading) → read text ≡ o → Holds (receiving t text o)
   unfolding receiving
-  receive_holds text none q = all
-  receive_holds text (some r) q =
+  receive_holds text None q = all
+  receive_holds text (Some r) q =
       by_case Holds _ _ _ (λ _. all) λ _.
       partner_holds r.org _ (λ e l k. (receive_keeps (bare t.own) (own_name t lawful) e l k text r q).held)
 
@@ -98,8 +98,8 @@ module _ (t : Table) (lawful : legal t ≡ true) (all : AllHeld t.slots) where
     where
       go : is_name id ≡ true → is_name name ≡ true → (o : Option (List Entry))
           → into_free_slot (loaded (name_of id) (name_of name) top) t.slots ≡ o → Holds (after_load t o)
-      go i n none q = all
-      go i n (some m) q =
+      go i n None q = all
+      go i n (Some m) q =
           place_held (loaded (name_of id) (name_of name) top) t.slots m
           (held_loaded (name_of id) (name_of name) top (held_name_of id (name_octets id i))
           (held_name_of name (name_octets name n)) f.0 f.1) all q
@@ -128,13 +128,13 @@ module _ (t : Table) (lawful : legal t ≡ true) (all : AllHeld t.slots) where
 -- ---- lengths
 
 -- where a record is put in place of one that is as long, the slots' records are as long as they were
-put_long : (id : Text) (f : Entry) (slots : List Entry) (e : Entry) → find id slots ≡ some e
+put_long : (id : Text) (f : Entry) (slots : List Entry) (e : Entry) → find id slots ≡ Some e
     → length (slot_bytes f) ≡ length (slot_bytes e) → length (slots_bytes (put id f slots)) ≡ length (slots_bytes slots)
 put_long id f [] e q h = absurd (none_some _ q)
 put_long id f (g ∷ slots) e q h = go (same g.identity.bytes id) q (put_long id f slots e)
   where
-    go : (b : Bool) → cond b (some g) (find id slots) ≡ some e
-        → (find id slots ≡ some e → length (slot_bytes f) ≡ length (slot_bytes e)
+    go : (b : Bool) → cond b (Some g) (find id slots) ≡ Some e
+        → (find id slots ≡ Some e → length (slot_bytes f) ≡ length (slot_bytes e)
         → length (slots_bytes (put id f slots)) ≡ length (slots_bytes slots))
         → length (slots_bytes (cond b (f ∷ slots) (g ∷ put id f slots))) ≡ length (slot_bytes g ++ slots_bytes slots)
     go true q r =
@@ -151,7 +151,7 @@ partner_record : (e : Entry) → partner.legal e ≡ true → Held e → length 
 unfolding slot_bytes
 partner_record e l h = rw (legal_full e l) (omega (arith, (entries.claims).record_has_156_bytes e h))
 
-module _ (image : Text) (t : Table) (d : decode image ≡ some t) (octets : all_octets image ≡ true) where
+module _ (image : Text) (t : Table) (d : decode image ≡ Some t) (octets : all_octets image ≡ true) where
   abbrev AsLong : After → Type 0
   AsLong a = length (encode a.table) ≡ length image
 
@@ -164,8 +164,8 @@ module _ (image : Text) (t : Table) (d : decode image ≡ some t) (octets : all_
   partner_long id turn keeps = go (entry_of id t) refl
     where
       go : (o : Option Entry) → entry_of id t ≡ o → AsLong (after_turn t id turn o)
-      go none q = unchanged
-      go (some e) q =
+      go None q = unchanged
+      go (Some e) q =
           let k = entry_held t id e q in
           let l = held_legal t id e (lawful_table image t d) k in
           let h = find_held (filled id) t.slots e (claims.read_is_held image t octets d) k.found in
@@ -180,8 +180,8 @@ module _ (image : Text) (t : Table) (d : decode image ≡ some t) (octets : all_
 
   receive_long : (text : Text) (o : Option Reading) → read text ≡ o → AsLong (receiving t text o)
   unfolding receiving
-  receive_long text none q = unchanged
-  receive_long text (some r) q =
+  receive_long text None q = unchanged
+  receive_long text (Some r) q =
       by_case AsLong _ _ _ (λ _. unchanged) λ _.
       partner_long r.org _ (λ e l k. receive_keeps (bare t.own) own e l k text r q)
 

@@ -1,7 +1,7 @@
 -- The table of a legal image, and the calls over it.
+use Rattle.std.specs.Prelude.{Some}
 use mathlib.Core.Path.{◌≡◌, ap, ◌∙◌}
 use mathlib.Core.Bool.{true}
-use mathlib.Core.Option.{some}
 use Rattle.octets.specs.Text.{Text, is_name}
 use Rattle.octets.specs.Part.{bare}
 use Rattle.partner.proofs.Claims as entries
@@ -16,7 +16,7 @@ use Rattle.calls.proofs.Tests.{if_true}
 use Rattle.calls.proofs.Tables.{legal_parts, own_name}
 use Rattle.sight.specs.Table.{table, over_row}
 
-module _ (image : Text) (t : Table) (d : decode image ≡ some t) where
+module _ (image : Text) (t : Table) (d : decode image ≡ Some t) where
   pub lawful_table : legal t ≡ true
   lawful_table = (decoded image t d).is_legal
 

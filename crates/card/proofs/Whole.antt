@@ -1,8 +1,8 @@
 -- Ask, load and remove on the table of an image: what each gives by the way of the call.
+use Rattle.std.specs.Prelude.{Option, None, Some}
 use mathlib.Core.Path.{◌≡◌, refl, sym, ap, ◌∙◌, subst}
-use mathlib.Core.Bool.{Bool, true, false, cond, not}
+use mathlib.Core.Bool.{true, false}
 use mathlib.Core.List.{List, [], ◌∷◌}
-use mathlib.Core.Option.{Option, none, some}
 use Prim.Native.Nat.{ℕ, ◌<◌}
 use native.Mathlib.Omega.{arith}
 use lib.Dec.{eqb}
@@ -14,6 +14,7 @@ use Rattle.octets.specs.Part.{all_octets}
 use Rattle.octets.proofs.Comparing.{both as and_true}
 use Rattle.keying.specs.declared.Top.{Top}
 use Rattle.keying.specs.Keys.{odd_top}
+use Rattle.partner.specs.declared.Name.{Name}
 use Rattle.partner.specs.declared.Entry.{Entry}
 use Rattle.partner.specs.Entry.{empty, filled, name_of}
 use Rattle.partner.specs.Record.{entry_bytes}
@@ -36,13 +37,12 @@ use Rattle.calls.proofs.Refusals.{refusals}
 use Rattle.calls.proofs.Tests.{by_case, if_true, if_false}
 use Rattle.sight.specs.declared.aims.Act.TheVariants.{Remove, Ask, Load}
 use Rattle.sight.specs.declared.aims.Aim.{Aim}
-use Rattle.sight.specs.declared.Sight.{Sight}
-use Rattle.sight.specs.Aim.{at_partner, at_free_slot, aim_of}
+use Rattle.sight.specs.Aim.{identity, at_partner, at_free_slot, aim_of}
 use Rattle.sight.specs.Asked.{call_of}
 use Rattle.card.specs.Whole.{body_of, delivering}
-use Rattle.card.specs.Ways.{ours, theirs, sought, seen, turn_in}
+use Rattle.card.specs.Ways.{ours, slot_named, theirs, sought, seen, place, turn_in}
 use Rattle.card.proofs.Tables.{lawful_table}
-use Rattle.card.proofs.Seeing.{seen_is}
+use Rattle.card.proofs.Seeing.{identity_named, place_is}
 use Rattle.card.proofs.Calling.{ends, table_is}
 use Rattle.card.proofs.Delivering.{delivers}
 
@@ -65,7 +65,7 @@ judged_as {o} {o'} {r} {text} p j = subst (λ (x : Outcome). Judged x r text) (s
 
 -- ---- where the table has it
 
-module _ (image : Text) (d : decode image ≡ some (table_in image)) where
+module _ (image : Text) (d : decode image ≡ Some (table_in image)) where
   abbrev t : Table
   t = table_in image
 
@@ -78,21 +78,21 @@ module _ (image : Text) (d : decode image ≡ some (table_in image)) where
 
   -- the slot where the partner's entry stands
   record InSlot (id : Text) (e : Entry) : Type 0 where
-    within : (seen (them id) image).at < 64
-    holds : get_or t.slots (seen (them id) image).at empty ≡ e
+    within : (place (seen (them id) image)) < 64
+    holds : get_or t.slots (place (seen (them id) image)) empty ≡ e
     full : is_empty e ≡ false
-    puts : (x : Entry) → set t.slots (seen (them id) image).at x ≡ put (filled id) x t.slots
+    puts : (x : Entry) → set t.slots (place (seen (them id) image)) x ≡ put (filled id) x t.slots
 
   their_slot : (id : Text) → is_name id ≡ true → sought (them id) image ≡ slot_of (filled id) image
   unfolding sought theirs
-  their_slot id n = ap (λ (b : Bool). cond (not b) 64 (slot_of (filled id) image)) n
+  their_slot id n = let i : identity id ≡ Some (name_of id) = rw n in ap (λ (o : Option Name). slot_named o image) i
 
-  in_slot : (id : Text) (e : Entry) → entry_of id t ≡ some e → InSlot id e
+  in_slot : (id : Text) (e : Entry) → entry_of id t ≡ Some e → InSlot id e
   in_slot id e q =
       let h = entry_held t id e q in
       let k = slot_found image t d (filled id) e ((entries.claims).filled_is_filled id h.name) h.found in
-      let i : slot_of (filled id) image ≡ (seen (them id) image).at =
-      sym (ap (λ (x : Sight). x.at) (seen_is image t d (them id)) ∙ their_slot id h.name) in
+      let i : slot_of (filled id) image ≡ (place (seen (them id) image)) =
+      sym (place_is image t d (them id) (identity_named id) ∙ their_slot id h.name) in
       record {
         within = subst (λ (n : ℕ). n < 64) i k.0;
         holds = ap (λ (n : ℕ). get_or t.slots n empty) (sym i) ∙ k.1;
@@ -110,18 +110,18 @@ module _ (image : Text) (d : decode image ≡ some (table_in image)) where
     asked = turn_in (them id) image Ask [] room
 
     ask_run : (asked.outcome ≡ (run t (about id ask)).outcome)
-        × (set t.slots (seen (them id) image).at asked.entry ≡ (run t (about id ask)).table.slots)
+        × (set t.slots (place (seen (them id) image)) asked.entry ≡ (run t (about id ask)).table.slots)
     unfolding call_of aim_of
     ask_run = ends Ask image id [] room d
 
     -- the entry is left, so it is the one that was found
-    left_so : (e : Entry) → entry_of id t ≡ some e → asked.entry ≡ e
+    left_so : (e : Entry) → entry_of id t ≡ Some e → asked.entry ≡ e
     left_so e q =
         let i = in_slot id e q in
         let w = i.within in
         let n = slots_64 in
-        sym (get_or-set_same t.slots (seen (them id) image).at asked.entry empty (omega arith))
-        ∙ ap (λ (l : List Entry). get_or l (seen (them id) image).at empty)
+        sym (get_or-set_same t.slots (place (seen (them id) image)) asked.entry empty (omega arith))
+        ∙ ap (λ (l : List Entry). get_or l (place (seen (them id) image)) empty)
         (ask_run.1 ∙ ap (λ (a : After). a.table.slots) (refusals.asked_is_found t id e lawful q))
         ∙ i.holds
 
@@ -129,10 +129,10 @@ module _ (image : Text) (d : decode image ≡ some (table_in image)) where
     ask_judged = go (entry_of id t) refl
       where
         go : (o : Option Entry) → entry_of id t ≡ o → Judged (body_of (entry_of id t)) asked (entry_bytes asked.entry)
-        go none q =
+        go None q =
             refused_alike _ asked _ 3 refl (ap body_of q)
             (ask_run.0 ∙ ap (λ (a : After). a.outcome) (refusals.nobody_to_show t id lawful q))
-        go (some e) q =
+        go (Some e) q =
             let o : asked.outcome ≡ success [] nothing =
             ask_run.0 ∙ ap (λ (a : After). a.outcome) (refusals.asked_is_found t id e lawful q) in
             record {
@@ -146,11 +146,11 @@ module _ (image : Text) (d : decode image ≡ some (table_in image)) where
     asked_held h o = go (entry_of id t) refl
       where
         go : (e : Option Entry) → entry_of id t ≡ e → Held asked.entry
-        go none q =
+        go None q =
             absurd (eqb-false 3 0 refl
             (sym (ap (λ (a : After). a.outcome.answer) (refusals.nobody_to_show t id lawful q))
             ∙ sym (ap (λ (x : Outcome). x.answer) ask_run.0) ∙ h))
-        go (some e) q = subst Held ((in_slot id e q).holds ∙ sym (left_so e q)) (slot_held image _ o)
+        go (Some e) q = subst Held ((in_slot id e q).holds ∙ sym (left_so e q)) (slot_held image _ o)
 
   -- ---- what is delivered: with 0 the image of the table after the call
 
@@ -172,7 +172,7 @@ module _ (image : Text) (d : decode image ≡ some (table_in image)) where
     removing = turn_in (them id) image Remove [] room
 
     remove_run : (removing.outcome ≡ (run t (about id remove)).outcome)
-        × (set t.slots (seen (them id) image).at removing.entry ≡ (run t (about id remove)).table.slots)
+        × (set t.slots (place (seen (them id) image)) removing.entry ≡ (run t (about id remove)).table.slots)
     unfolding call_of aim_of
     remove_run = ends Remove image id [] room d
 
@@ -180,7 +180,7 @@ module _ (image : Text) (d : decode image ≡ some (table_in image)) where
     remove_judged =
         delivered_judged (about id remove) removing remove_run.0
 
-    removed_table : (e : Entry) → entry_of id t ≡ some e
+    removed_table : (e : Entry) → entry_of id t ≡ Some e
         → holding t (put (filled id) empty t.slots) ≡ (run t (about id remove)).table
     unfolding run perform at_partner_of
     removed_table e q =
@@ -188,20 +188,20 @@ module _ (image : Text) (d : decode image ≡ some (table_in image)) where
         (if_true (legal t) _ _ lawful ∙ if_false false _ _ refl ∙ ap (after_turn t id emptied) q))
 
     pub remove_written : removing.outcome.answer ≡ 0
-        → removed_slot (seen (them id) image).at image ≡ some (encode (run t (about id remove)).table)
+        → removed_slot (place (seen (them id) image)) image ≡ Some (encode (run t (about id remove)).table)
     remove_written h = go (entry_of id t) refl
       where
         go : (o : Option Entry) → entry_of id t ≡ o
-            → removed_slot (seen (them id) image).at image ≡ some (encode (run t (about id remove)).table)
-        go none q =
+            → removed_slot (place (seen (them id) image)) image ≡ Some (encode (run t (about id remove)).table)
+        go None q =
             absurd (eqb-false 3 0 refl
             (sym (ap (λ (a : After). a.outcome.answer) (refusals.nobody_to_remove t id lawful q))
             ∙ sym (ap (λ (x : Outcome). x.answer) remove_run.0) ∙ h))
-        go (some e) q =
+        go (Some e) q =
             let i = in_slot id e q in
-            remove_slot_is image t d (seen (them id) image).at i.within (ap is_empty i.holds ∙ i.full)
-            ∙ ap (λ (l : List Entry). some (encode (holding t l))) (i.puts empty)
-            ∙ ap (λ (u : Table). some (encode u)) (removed_table e q)
+            remove_slot_is image t d (place (seen (them id) image)) i.within (ap is_empty i.holds ∙ i.full)
+            ∙ ap (λ (l : List Entry). Some (encode (holding t l))) (i.puts empty)
+            ∙ ap (λ (u : Table). Some (encode u)) (removed_table e q)
 
   -- ---- load
 
@@ -213,7 +213,7 @@ module _ (image : Text) (d : decode image ≡ some (table_in image)) where
     loading_turn = turn_in spot image (Load top) name room
 
     load_run : (loading_turn.outcome ≡ (run t (load id name top)).outcome)
-        × (set t.slots (seen spot image).at loading_turn.entry ≡ (run t (load id name top)).table.slots)
+        × (set t.slots (place (seen spot image)) loading_turn.entry ≡ (run t (load id name top)).table.slots)
     unfolding call_of aim_of
     load_run = ends (Load top) image id name room d
 
@@ -227,7 +227,7 @@ module _ (image : Text) (d : decode image ≡ some (table_in image)) where
     -- with 0 there was a place for the new entry, which is legal
     abbrev Placed : List Entry → Type 0
     Placed after =
-        (m : List Entry) × (into_free_slot new_entry t.slots ≡ some m) × (after ≡ m) × (partner.legal new_entry ≡ true)
+        (m : List Entry) × (into_free_slot new_entry t.slots ≡ Some m) × (after ≡ m) × (partner.legal new_entry ≡ true)
 
     abbrev IfDone : After → Type 0
     IfDone a = a.outcome.answer ≡ 0 → Placed a.table.slots
@@ -237,8 +237,8 @@ module _ (image : Text) (d : decode image ≡ some (table_in image)) where
 
     was_placed : is_name name ≡ true → odd_top top ≡ true → is_name id ≡ true → (o : Option (List Entry))
         → into_free_slot new_entry t.slots ≡ o → IfDone (after_load t o)
-    was_placed n o i none q = not_done 9 refl
-    was_placed n o i (some m) q = λ h. (
+    was_placed n o i None q = not_done 9 refl
+    was_placed n o i (Some m) q = λ h. (
       m,
       q,
       refl,
@@ -257,12 +257,12 @@ module _ (image : Text) (d : decode image ≡ some (table_in image)) where
         (and_true (is_name id) (differs (filled id) (t.own ∷ identities t.slots)) (not-false _ i)).0
         (into_free_slot new_entry t.slots) refl) (λ l. not_done 13 refl)
 
-    spot_at : (seen spot image).at ≡ free_slot image
+    spot_at : (place (seen spot image)) ≡ free_slot image
     unfolding sought
-    spot_at = ap (λ (x : Sight). x.at) (seen_is image t d spot)
+    spot_at = place_is image t d spot (identity_named id)
 
     pub load_written : loading_turn.outcome.answer ≡ 0
-        → added_slot (seen spot image).at loading_turn.entry image ≡ some (encode (run t (load id name top)).table)
+        → added_slot (place (seen spot image)) loading_turn.entry image ≡ Some (encode (run t (load id name top)).table)
     unfolding call_of aim_of
     load_written h =
         let w = was_loaded (sym (ap (λ (x : Outcome). x.answer) load_run.0) ∙ h) in
@@ -270,13 +270,13 @@ module _ (image : Text) (d : decode image ≡ some (table_in image)) where
         let k = f.0 in
         let n = slots_64 in
         let i = spot_at in
-        let p : set t.slots (seen spot image).at loading_turn.entry ≡ set t.slots (seen spot image).at new_entry =
+        let p : set t.slots (place (seen spot image)) loading_turn.entry ≡ set t.slots (place (seen spot image)) new_entry =
         load_run.1 ∙ w.2 ∙ sym (ap (λ (j : ℕ). set t.slots j new_entry) i ∙ f.2) in
         let e : loading_turn.entry ≡ new_entry =
-        sym (get_or-set_same t.slots (seen spot image).at loading_turn.entry empty (omega arith))
-        ∙ ap (λ (l : List Entry). get_or l (seen spot image).at empty) p
-        ∙ get_or-set_same t.slots (seen spot image).at new_entry empty (omega arith) in
-        load_slot_is image t d (seen spot image).at loading_turn.entry (omega arith)
+        sym (get_or-set_same t.slots (place (seen spot image)) loading_turn.entry empty (omega arith))
+        ∙ ap (λ (l : List Entry). get_or l (place (seen spot image)) empty) p
+        ∙ get_or-set_same t.slots (place (seen spot image)) new_entry empty (omega arith) in
+        load_slot_is image t d (place (seen spot image)) loading_turn.entry (omega arith)
         (ap (λ (j : ℕ). is_empty (get_or t.slots j empty)) i ∙ ap is_empty f.1 ∙ empty_is)
         (ap is_empty e ∙ legal_full new_entry w.3)
-        ∙ ap (λ (u : Table). some (encode u)) (table_is (Load top) image id name room d)
+        ∙ ap (λ (u : Table). Some (encode u)) (table_is (Load top) image id name room d)

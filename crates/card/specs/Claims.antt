@@ -1,6 +1,5 @@
 -- What is claimed of every call over the stored image; proved as `claims` in proofs/Claims.antt.
-use Rattle.std.specs.Prelude.{◌≡◌, true, [], ◌∷◌, ℕ, ◌^◌, ◌<◌, ◌≤◌, length}
-use Rattle.std.proofs.Math.Option.{some}
+use Rattle.std.specs.Prelude.{◌≡◌, true, [], ◌∷◌, ℕ, ◌^◌, ◌<◌, ◌≤◌, length, Some}
 use Rattle.octets.specs.Text.{Text, stands}
 use Rattle.octets.specs.Part.{all_octets, found}
 use Rattle.keying.specs.declared.Top.{Top}
@@ -67,7 +66,7 @@ pub record Claims : Type 0 where
       → replied (outcome_over image c) buffer ≡ buffer
   -- a legal image stays legal: it is that of the table after the call
   pub stays_legal : (image : Text) (t : Table) (c : Call) → all_octets image ≡ true → Of64Bits c
-      → decode image ≡ some t → decode (image_over image c) ≡ some (run t c).table
+      → decode image ≡ Some t → decode (image_over image c) ≡ Some (run t c).table
   -- receive, build, give up and ask keep its length
   pub length_stays : (image : Text) (c : Call) → all_octets image ≡ true → Of64Bits c → InPlace c
       → length (image_over image c) ≡ length image

@@ -1,6 +1,5 @@
 -- A call over the stored image: its outcome, and the image after it (document 01, "Answers" and "Stored image").
-use Rattle.std.specs.Prelude.{◌≡◌}
-use Rattle.std.proofs.Math.Option.{none, some}
+use Rattle.std.specs.Prelude.{◌≡◌, None, Some}
 use Rattle.octets.specs.Text.{Text}
 use Rattle.image.specs.Image.{decode, encode}
 use Rattle.calls.specs.Outcome.{Outcome, refusal}
@@ -10,11 +9,11 @@ use Rattle.outcome.specs.Report.{report, replied}
 
 -- 13 where the bytes are no image, else the call on its table
 unfoldable pub outcome_over : Text → Call → Outcome
-outcome_over image c = elim (decode image) [ none ↦ refusal 13 | some t ↦ (run t c).outcome ]
+outcome_over image c = elim (decode image) [ None ↦ refusal 13 | Some t ↦ (run t c).outcome ]
 
 -- the image of the table after it; the bytes as they were where they are no image
 unfoldable pub image_over : Text → Call → Text
-image_over image c = elim (decode image) [ none ↦ image | some t ↦ encode (run t c).table ]
+image_over image c = elim (decode image) [ None ↦ image | Some t ↦ encode (run t c).table ]
 
 -- ---- what a call over a lent image ends with
 

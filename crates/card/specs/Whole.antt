@@ -1,7 +1,6 @@
 -- The calls that show an entry or write a whole image to a lent buffer: what they write stands as the reply of their
 -- outcome (document 01, "Answers" and "Stored image").
-use Rattle.std.proofs.Math.Option.{Option, none, some}
-use Rattle.std.specs.Prelude.{ℕ, eqb, ltb, length, take, drop}
+use Rattle.std.specs.Prelude.{ℕ, eqb, ltb, length, take, drop, Option, None, Some}
 use Rattle.octets.specs.Text.{Text}
 use Rattle.octets.specs.Number.{number}
 use Rattle.keying.specs.declared.Top.{Top}
@@ -18,15 +17,15 @@ use Rattle.calls.specs.Calls.{After, about, remove, load, entry_of, bad_identity
 
 -- 3, or the body of the entry's record
 abbrev pub body_of : Option Entry → Outcome
-body_of none = refusal 3
-body_of (some e) = success (entry_bytes e) nothing
+body_of None = refusal 3
+body_of (Some e) = success (entry_bytes e) nothing
 
 -- 13, 6, then these
 unfoldable pub ask_over : Text → ℕ → Text → Outcome
 ask_over image room id =
     elim (decode image) [
-      | none ↦ refusal 13
-      | some t ↦ in_case ltb room 256 then refusal 6 else body_of (entry_of id t)
+      | None ↦ refusal 13
+      | Some t ↦ in_case ltb room 256 then refusal 6 else body_of (entry_of id t)
     ]
 
 -- ---- whole images: less room than the largest has is 6
@@ -35,7 +34,7 @@ ask_over image room id =
 unfoldable pub start_over : Text → ℕ → Outcome
 start_over own room =
     in_case ltb room largest then refusal 6 else
-    elim (start own) [ none ↦ refusal 10 | some t ↦ success (encode t) nothing ]
+    elim (start own) [ None ↦ refusal 10 | Some t ↦ success (encode t) nothing ]
 
 -- with 0 the image of the table after the call
 unfoldable pub delivering : After → Outcome
@@ -44,26 +43,26 @@ delivering a = in_case eqb a.outcome.answer 0 then success (encode a.table) noth
 -- a top key by its bytes, the high byte first: 8 a single key, 16 a pair, another number none
 unfoldable pub top_in : Text → Option Top
 top_in key =
-    in_case eqb (length key) 8 then some (Single (number key)) else
-    in_case eqb (length key) 16 then some (Pair (number (take 8 key)) (number (drop 8 key))) else none
+    in_case eqb (length key) 8 then Some (Single (number key)) else
+    in_case eqb (length key) 16 then Some (Pair (number (take 8 key)) (number (drop 8 key))) else None
 
 -- load: 10, 12, 11, 9; a key that is none is 12, as a bad key name
 unfoldable pub load_with : Table → Text → Text → Option Top → Outcome
-load_with t id name none = in_case bad_identity t id then refusal 10 else refusal 12
-load_with t id name (some top) = delivering (run t (load id name top))
+load_with t id name None = in_case bad_identity t id then refusal 10 else refusal 12
+load_with t id name (Some top) = delivering (run t (load id name top))
 
 -- 13, 6, then these
 unfoldable pub load_over : Text → ℕ → Text → Text → Text → Outcome
 load_over image room id name key =
     elim (decode image) [
-      | none ↦ refusal 13
-      | some t ↦ in_case ltb room largest then refusal 6 else load_with t id name (top_in key)
+      | None ↦ refusal 13
+      | Some t ↦ in_case ltb room largest then refusal 6 else load_with t id name (top_in key)
     ]
 
 -- remove: 13, 6, 3
 unfoldable pub remove_over : Text → ℕ → Text → Outcome
 remove_over image room id =
     elim (decode image) [
-      | none ↦ refusal 13
-      | some t ↦ in_case ltb room largest then refusal 6 else delivering (run t (about id remove))
+      | None ↦ refusal 13
+      | Some t ↦ in_case ltb room largest then refusal 6 else delivering (run t (about id remove))
     ]

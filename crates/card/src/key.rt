@@ -1,31 +1,27 @@
-// A top key by its bytes: 8 a single key, 16 a pair; another number is none, which is answered as a bad key name is.
+// A top key by its bytes, and the name that goes with it.
 ghost use Rattle.std.specs.Prelude.{◌≡◌};
 ghost use Rattle.card.specs.Ways as ways;
+ghost use Rattle.card.specs.Whole as whole;
 
 use keying::Top;
 
-// The key; where there is none, one of zeros.
-pub(crate) fn top_of(key: &[u8]) -> Top
-    ensures { result ≡ ways.top_of key.now }
+// 8 a single key, 16 a pair; another number is none.
+pub(crate) fn top_in(key: &[u8]) -> Option<Top>
+    ensures { result ≡ whole.top_in key.now }
 {
-    if key.len() == 8 {
-        return Top::Single(octets::number(key));
+    match key.len() {
+        8 => Some(Top::Single(octets::number(key))),
+        16 => Some(Top::Pair(octets::number(&key[..8]), octets::number(&key[8..]))),
+        _ => None,
     }
-    if key.len() != 16 {
-        return Top::Single(0);
-    }
-    Top::Pair(octets::number(&key[..8]), octets::number(&key[8..]))
 }
 
-// The key's name; where there is no key, none.
-pub(crate) fn name_with<'a>(name: &'a [u8], key: &[u8]) -> &'a [u8]
-    ensures { result.now ≡ ways.name_with name.now key.now }
+// The key's name; where there is no key, none: that is answered as a bad key name is.
+pub(crate) fn name_with<'a>(name: &'a [u8], key: Option<Top>) -> &'a [u8]
+    ensures { result.now ≡ ways.name_or_none name.now key }
 {
-    if key.len() == 8 {
-        return name;
+    match key {
+        Some(_) => name,
+        None => &name[..0],
     }
-    if key.len() == 16 {
-        return name;
-    }
-    &name[..0]
 }

@@ -1,14 +1,13 @@
 -- A walk over a table that names bits.
-use mathlib.Core.Path.{◌≡◌, sym, ap, ◌∙◌}
+use mathlib.Core.Path.{◌≡◌, ap}
 use mathlib.Core.Bool.{◌&&◌}
 use mathlib.Core.List.{List, [], ◌∷◌}
-use Prim.Native.Nat.{ℕ, zero, suc, ◌+◌, ◌*◌, ◌^◌, ◌≤◌, ◌<◌}
+use Prim.Native.Nat.{ℕ, zero, suc, ◌+◌, ◌-◌, ◌*◌, ◌/◌, ◌%◌, ◌^◌, ◌≤◌, ◌<◌}
 use native.Mathlib.Nat.{not-suc-le-zero, le_of_suc-le-suc, pow-suc}
 use native.Mathlib.Numerals.{add-one}
 use native.Mathlib.Omega.{arith}
-use lib.ListN.{length, get_or, drop, drop_of_length-le}
+use lib.ListN.{length, get_or, drop}
 use lib.Seq.{drop-cons}
-use lib.Pow.{pow_mono}
 use lib.Dec.{T, leb, leb→le}
 use Rattle.cipher.specs.Words.{names_bits}
 use Rattle.dea.specs.Dea.{gather, bit}
@@ -25,15 +24,10 @@ named_at n (t ∷ ts) h (suc k) hk =
     named_at n ts (and_right (leb 1 t && leb t n) (names_bits n ts) h) k (le_of_suc-le-suc hk)
 
 -- one more number of the table
-pub walk : (n x bits i : ℕ) (ts : List ℕ) (r : ℕ) → i < length ts → gather n x bits (drop i ts) ≡ r
-    → gather n x (bits * 2 + bit n (get_or ts i 0) x) (drop (i + 1) ts) ≡ r
-walk n x bits i ts r hi e = rw add-one (sym (ap (gather n x bits) (drop-cons ts i 0 hi)) ∙ e)
+pub walk : (n x bits i : ℕ) (ts : List ℕ) → i < length ts
+    → gather n x bits (drop i ts) ≡ gather n x (bits * 2 + x / 2 ^ (n - get_or ts i 0) % 2) (drop (i + 1) ts)
+unfolding bit
+walk n x bits i ts hi = rw add-one (ap (gather n x bits) (drop-cons ts i 0 hi))
 
-pub grows : {bits : ℕ} (b i : ℕ) → bits < 2 ^ i → b < 2 → bits * 2 + b < 2 ^ (i + 1)
-grows b i h hb = rw (add-one, pow-suc) (omega arith)
-
-pub small : {bits i : ℕ} → bits < 2 ^ i → i < 64 → bits < 2 ^ 63
-small h hi = omega (arith, pow_mono (le_of_suc-le-suc hi))
-
-pub walked : (n x bits i : ℕ) (ts : List ℕ) (r : ℕ) → length ts ≤ i → gather n x bits (drop i ts) ≡ r → bits ≡ r
-walked n x bits i ts r hi e = sym (ap (gather n x bits) (drop_of_length-le ts hi)) ∙ e
+pub grows : (bits b i : ℕ) → bits < 2 ^ i → bits * 2 + b % 2 < 2 ^ (i + 1)
+grows bits b i h = rw (add-one, pow-suc) (omega arith)

@@ -1,7 +1,7 @@
-// The tables of FIPS 46 that the code walks over.
+// The tables of FIPS 46 that the code walks over, in read-only memory.
 
 // The selection functions S1 to S8: four rows each, a row as its sixteen columns in hexadecimal.
-pub(crate) const BOXES: [u64; 32] = [
+pub(crate) static BOXES: [u64; 32] = [
     0xE4D12FB83A6C5907,
     0x0F74E2D1A6CB9538,
     0x41E8D62BFC973A50,
@@ -37,23 +37,32 @@ pub(crate) const BOXES: [u64; 32] = [
 ];
 
 // The permutation function P.
-pub(crate) const P_TABLE: [u8; 32] = [
+pub(crate) static P_TABLE: [u8; 32] = [
     16, 7, 20, 21, 29, 12, 28, 17, 1, 15, 23, 26, 5, 18, 31, 10, 2, 8, 24, 14, 32, 27, 3, 9, 19,
     13, 30, 6, 22, 11, 4, 25,
 ];
 
 // Permuted choice 1.
-pub(crate) const PC1_TABLE: [u8; 56] = [
+pub(crate) static PC1_TABLE: [u8; 56] = [
     57, 49, 41, 33, 25, 17, 9, 1, 58, 50, 42, 34, 26, 18, 10, 2, 59, 51, 43, 35, 27, 19, 11, 3, 60,
     52, 44, 36, 63, 55, 47, 39, 31, 23, 15, 7, 62, 54, 46, 38, 30, 22, 14, 6, 61, 53, 45, 37, 29,
     21, 13, 5, 28, 20, 12, 4,
 ];
 
 // Permuted choice 2.
-pub(crate) const PC2_TABLE: [u8; 48] = [
+pub(crate) static PC2_TABLE: [u8; 48] = [
     14, 17, 11, 24, 1, 5, 3, 28, 15, 6, 21, 10, 23, 19, 12, 4, 26, 8, 16, 7, 27, 20, 13, 2, 41, 52,
     31, 37, 47, 55, 30, 40, 51, 45, 33, 48, 44, 49, 39, 56, 34, 53, 46, 42, 50, 36, 29, 32,
 ];
 
 // The number of left shifts of each iteration.
-pub(crate) const SHIFTS: [u32; 16] = [1, 1, 2, 2, 2, 2, 2, 2, 1, 2, 2, 2, 2, 2, 2, 1];
+pub(crate) static SHIFTS: [u32; 16] = [1, 1, 2, 2, 2, 2, 2, 2, 1, 2, 2, 2, 2, 2, 2, 1];
+
+// The exchanges that make the initial permutation: how much further left the bits go, and which bits they are.
+pub(crate) static EXCHANGES: [(u32, u64); 5] = [
+    (3, 0x1111111111111111),
+    (6, 0x0303030303030303),
+    (9, 0x0055005500550055),
+    (18, 0x0000333300003333),
+    (36, 0x000000000f0f0f0f),
+];

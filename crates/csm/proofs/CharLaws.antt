@@ -1,8 +1,8 @@
 -- The text of a legal reading is `CSM(`, characters of the set, `)`.
+use Rattle.std.specs.Prelude.{None, Some}
 use mathlib.Core.Path.{◌≡◌, refl, sym, ap, ◌∙◌}
 use mathlib.Core.Bool.{Bool, true, not, ◌&&◌}
 use mathlib.Core.List.{[], ◌∷◌, ◌++◌, append_assoc}
-use mathlib.Core.Option.{none, some}
 use Prim.Native.Nat.{ℕ}
 use Prim.Native.Char.{code}
 use lib.Dec.{eqb}
@@ -73,8 +73,8 @@ row_made P z s n [] v k = z
 row_made P z s n (one f ∷ rs) (a, v) k =
     let h = and_true ((field f).legal a) ((fields rs []).legal v) k in
     (s f a h.0 rs _ (row_made P z s n rs v h.1)).0
-row_made P z s n (opt f ∷ rs) (none, v) k = n f rs _ (row_made P z s n rs v k)
-row_made P z s n (opt f ∷ rs) (some a, v) k =
+row_made P z s n (opt f ∷ rs) (None, v) k = n f rs _ (row_made P z s n rs v k)
+row_made P z s n (opt f ∷ rs) (Some a, v) k =
     let h = and_true ((field f).legal a) ((fields rs []).legal v) k in
     (s f a h.0 rs _ (row_made P z s n rs v h.1)).1
 

@@ -1,8 +1,8 @@
 -- What a MAC covers is the same from the text as from its reading, and ends 15 bytes before the text does.
+use Rattle.std.specs.Prelude.{Some}
 use mathlib.Core.Path.{◌≡◌, refl, sym, ap, ◌∙◌, subst}
 use mathlib.Core.Bool.{Bool, true, false, cond, not, ◌&&◌}
 use mathlib.Core.List.{[], ◌∷◌, ◌++◌, append_assoc, append-nil}
-use mathlib.Core.Option.{some}
 use Prim.Native.Nat.{ℕ, ◌-◌}
 use native.Mathlib.Omega.{arith}
 use lib.Dec.{eqb}
@@ -109,7 +109,7 @@ mac_end m = (field MAC).print m ++ ascii ")"
 
 -- ---- a body that has a MAC: the covered fields, MAC's field, `)`
 
-pub sealed_body : (b : Body) (m : ℕ) → mac_of b ≡ some m → print_body b ≡ covered_fields b ++ mac_end m
+pub sealed_body : (b : Body) (m : ℕ) → mac_of b ≡ Some m → print_body b ≡ covered_fields b ++ mac_end m
 sealed_body (rsi r) m e = absurd (none_some m e)
 sealed_body (ksm r) m e =
     row_end keyed_row (mac_end r.mac) (keyed_values r)
@@ -118,7 +118,7 @@ sealed_body (rsm r) m e = ap mac_end (some_inj e)
 sealed_body (esm r) m e = absurd (none_some m e)
 sealed_body (option c w) m e = absurd (none_some m e)
 
-pub sealed_passed : (b : Body) (m : ℕ) → mac_of b ≡ some m → legal_body b ≡ true → Passed (covered_fields b)
+pub sealed_passed : (b : Body) (m : ℕ) → mac_of b ≡ Some m → legal_body b ≡ true → Passed (covered_fields b)
 sealed_passed (rsi r) m e k = absurd (none_some m e)
 sealed_passed (ksm r) m e k =
     let nos = and_true (maybe_legal (field NOS) (flagged r.nos)) _ k in
@@ -132,7 +132,7 @@ sealed_passed (rsm r) m e k = λ s. refl
 sealed_passed (esm r) m e k = absurd (none_some m e)
 sealed_passed (option c w) m e k = absurd (none_some m e)
 
-pub sealed_text : (r : Reading) (m : ℕ) → mac_of r.body ≡ some m
+pub sealed_text : (r : Reading) (m : ℕ) → mac_of r.body ≡ Some m
     → print r ≡ ascii "CSM(" ++ (covered_part r ++ mac_end m)
 unfolding print covered_part
 sealed_text r m e =
@@ -142,7 +142,7 @@ sealed_text r m e =
 
 -- ---- text and reading agree, and so does the place
 
-pub covered_agrees : (t : Text) (r : Reading) (m : ℕ) → read t ≡ some r → mac_of r.body ≡ some m
+pub covered_agrees : (t : Text) (r : Reading) (m : ℕ) → read t ≡ Some r → mac_of r.body ≡ Some m
     → covered t ≡ covered_part r
 unfolding covered covered_part legal print
 covered_agrees t r m e s =
@@ -159,7 +159,7 @@ covered_agrees t r m e s =
 pub mac_end_length : (m : ℕ) → length (mac_end m) ≡ 15
 mac_end_length m = refl
 
-pub covered_place : (t : Text) (r : Reading) (m : ℕ) → read t ≡ some r → mac_of r.body ≡ some m
+pub covered_place : (t : Text) (r : Reading) (m : ℕ) → read t ≡ Some r → mac_of r.body ≡ Some m
     → covered t ≡ drop 4 (take (length t - 15) t)
 covered_place t r m e s =
     let u = covered_part r in

@@ -1,8 +1,8 @@
 -- Texts that are messages and texts that are none, each decided by computation.
+use Rattle.std.specs.Prelude.{Option, None, Some}
 use mathlib.Core.Path.{◌≡◌, refl}
 use mathlib.Core.Bool.{Bool, true, false, not, ◌&&◌}
 use mathlib.Core.List.{List, [], ◌∷◌, ◌++◌}
-use mathlib.Core.Option.{Option, none, some}
 use Prim.Native.Nat.{ℕ}
 use Prim.Native.String.{String}
 use lib.ListN.{length}
@@ -25,7 +25,7 @@ key k p i j = record { key = k; p = p; idk1 = i; idk2 = j }
 
 -- document 01's own line, of 43 bytes
 harbor : read (ascii "CSM(MCL/RSI RCV/HARBOR ORG/MILL SVR/KD.IV )")
-    ≡ some (to "HARBOR" "MILL" (rsi (record { svr = 3; edc = none })))
+    ≡ Some (to "HARBOR" "MILL" (rsi (record { svr = 3; edc = None })))
 unfolding read
 harbor = refl
 
@@ -34,7 +34,7 @@ harbor_bytes = refl
 
 -- the empty service, and an EDC
 one_key : read (ascii "CSM(MCL/RSI RCV/HARBOR ORG/MILL SVR/ EDC/00FF 0001 )")
-    ≡ some (to "HARBOR" "MILL" (rsi (record { svr = 0; edc = some 0x00ff0001 })))
+    ≡ Some (to "HARBOR" "MILL" (rsi (record { svr = 0; edc = Some 0x00ff0001 })))
 unfolding read
 one_key = refl
 
@@ -43,12 +43,12 @@ two_keys :
     ascii "CSM(MCL/KSM RCV/B ORG/A KD/0123456789ABCDEF.P KD/FEDCBA9876543210...T "
     ++ ascii "IV/E0123456789ABCDEF EDK/840229235959 CTP/12 MAC/0123 ABCD )"
     )
-    ≡ some (to "B" "A" (ksm (record {
+    ≡ Some (to "B" "A" (ksm (record {
       nos = false;
-      kd = key 0x0123456789abcdef true none none;
-      second = some (key 0xfedcba9876543210 false none (some (ascii "T")));
-      iv = some (ascii "E0123456789ABCDEF");
-      edk = some (ascii "840229235959");
+      kd = key 0x0123456789abcdef true None None;
+      second = Some (key 0xfedcba9876543210 false None (Some (ascii "T")));
+      iv = Some (ascii "E0123456789ABCDEF");
+      edk = Some (ascii "840229235959");
       ctp = 12;
       mac = 0x0123abcd;
     })))
@@ -63,15 +63,15 @@ abbrev notarized_reading : Reading
 notarized_reading =
     to "B" "A" (ksm (record {
       nos = true;
-      kd = key 0x0123456789abcdef false none none;
-      second = none;
-      iv = none;
-      edk = none;
+      kd = key 0x0123456789abcdef false None None;
+      second = None;
+      iv = None;
+      edk = None;
       ctp = 1;
       mac = 0x0123abcd;
     }))
 
-notarized_read : read notarized ≡ some notarized_reading
+notarized_read : read notarized ≡ Some notarized_reading
 unfolding read
 notarized_read = refl
 
@@ -100,19 +100,19 @@ answer_covered_bytes : length (ascii "MCL/RSM RCV/HARBOR ORG/MILL ") ≡ 28
 answer_covered_bytes = refl
 
 errors_with_P : read (ascii "CSM(MCL/ESM RCV/MILL ORG/HARBOR CTP/5 CTR/4 ERF/FP EDC/0000 0001 )")
-    ≡ some (to "MILL" "HARBOR" (esm (record { ctp = some 5; ctr = some 4; erf = 132; edc = some 1 })))
+    ≡ Some (to "MILL" "HARBOR" (esm (record { ctp = Some 5; ctr = Some 4; erf = 132; edc = Some 1 })))
 unfolding read
 errors_with_P = refl
 
 every_letter : read (ascii "CSM(MCL/ESM RCV/MILL ORG/HARBOR CTP/1 CTR/99999999 ERF/ABFIKMOPU )")
-    ≡ some (to "MILL" "HARBOR" (esm (record { ctp = some 1; ctr = some 99_999_999; erf = 511; edc = none })))
+    ≡ Some (to "MILL" "HARBOR" (esm (record { ctp = Some 1; ctr = Some 99_999_999; erf = 511; edc = None })))
 unfolding read
 every_letter = refl
 
 -- ---- options: every one is readable
 
 abbrev option_of : Class → String → Option Reading
-option_of c w = some (to "B" "A" (option c (ascii w)))
+option_of c w = Some (to "B" "A" (option c (ascii w)))
 
 options :
     (read (ascii "CSM(MCL/DSM RCV/B ORG/A )") ≡ option_of DSM "")
@@ -136,7 +136,7 @@ options = (refl, refl, refl, refl, refl, refl, refl, refl, refl, refl, refl, ref
 abbrev blanks : ℕ → Text
 blanks n = ascii "CSM(MCL/DSM RCV/B ORG/A " ++ (copies n blank ++ ascii ")")
 
-longest : (length (blanks 487) ≡ 512) × (found (read (blanks 487)) ≡ true) × (read (blanks 488) ≡ none)
+longest : (length (blanks 487) ≡ 512) × (found (read (blanks 487)) ≡ true) × (read (blanks 488) ≡ None)
 unfolding read
 longest = (refl, refl, refl)
 
@@ -207,26 +207,26 @@ abbrev kd_of : String → Option Kd
 kd_of t = value kd (ascii t)
 
 abbrev name_K : Option Text
-name_K = some (ascii "K")
+name_K = Some (ascii "K")
 
 abbrev name_N : Option Text
-name_N = some (ascii "NAME")
+name_N = Some (ascii "NAME")
 
 shapes :
-    (kd_of "0123456789ABCDEF" ≡ some (key 0x0123456789abcdef false none none))
-    × (kd_of "0123456789ABCDEF.P" ≡ some (key 0x0123456789abcdef true none none))
-    × (kd_of "0123456789ABCDEF..K" ≡ some (key 0x0123456789abcdef false name_K none))
-    × (kd_of "0123456789ABCDEF.P.K" ≡ some (key 0x0123456789abcdef true name_K none))
-    × (kd_of "0123456789ABCDEF...NAME" ≡ some (key 0x0123456789abcdef false none name_N))
-    × (kd_of "0123456789ABCDEF.P..NAME" ≡ some (key 0x0123456789abcdef true none name_N))
-    × (kd_of "0123456789ABCDEF..K.NAME" ≡ some (key 0x0123456789abcdef false name_K name_N))
-    × (kd_of "0123456789ABCDEF.P.K.NAME" ≡ some (key 0x0123456789abcdef true name_K name_N))
-    × (kd_of "0123456789ABCDEF..P" ≡ some (key 0x0123456789abcdef false (some (ascii "P")) none))
+    (kd_of "0123456789ABCDEF" ≡ Some (key 0x0123456789abcdef false None None))
+    × (kd_of "0123456789ABCDEF.P" ≡ Some (key 0x0123456789abcdef true None None))
+    × (kd_of "0123456789ABCDEF..K" ≡ Some (key 0x0123456789abcdef false name_K None))
+    × (kd_of "0123456789ABCDEF.P.K" ≡ Some (key 0x0123456789abcdef true name_K None))
+    × (kd_of "0123456789ABCDEF...NAME" ≡ Some (key 0x0123456789abcdef false None name_N))
+    × (kd_of "0123456789ABCDEF.P..NAME" ≡ Some (key 0x0123456789abcdef true None name_N))
+    × (kd_of "0123456789ABCDEF..K.NAME" ≡ Some (key 0x0123456789abcdef false name_K name_N))
+    × (kd_of "0123456789ABCDEF.P.K.NAME" ≡ Some (key 0x0123456789abcdef true name_K name_N))
+    × (kd_of "0123456789ABCDEF..P" ≡ Some (key 0x0123456789abcdef false (Some (ascii "P")) None))
 shapes = (refl, refl, refl, refl, refl, refl, refl, refl, refl)
 
 no_shapes :
-    (kd_of "0123456789ABCDEF." ≡ none) × (kd_of "0123456789ABCDEF.." ≡ none)
-    × (kd_of "0123456789ABCDEF.P." ≡ none) × (kd_of "0123456789ABCDEF.NAME" ≡ none)
-    × (kd_of "0123456789abcdef" ≡ none) × (kd_of "0123456789ABCDE" ≡ none)
-    × (kd_of "0123456789ABCDEF.P.K.NAME.X" ≡ none)
+    (kd_of "0123456789ABCDEF." ≡ None) × (kd_of "0123456789ABCDEF.." ≡ None)
+    × (kd_of "0123456789ABCDEF.P." ≡ None) × (kd_of "0123456789ABCDEF.NAME" ≡ None)
+    × (kd_of "0123456789abcdef" ≡ None) × (kd_of "0123456789ABCDE" ≡ None)
+    × (kd_of "0123456789ABCDEF.P.K.NAME.X" ≡ None)
 no_shapes = (refl, refl, refl, refl, refl, refl, refl)

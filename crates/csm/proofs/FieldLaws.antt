@@ -1,9 +1,9 @@
 -- Every field is lawful: the guess of each kind of contents is right, and they hold no slash and end at
 -- their blank.
+use Rattle.std.specs.Prelude.{Option, None, Some}
 use mathlib.Core.Path.{◌≡◌, refl, sym, ap, ◌∙◌}
 use mathlib.Core.Bool.{Bool, true, false, not, ◌&&◌, ◌||◌}
 use mathlib.Core.List.{List, [], ◌∷◌, ◌++◌, append_assoc, append-nil}
-use mathlib.Core.Option.{Option, none, some}
 use Prim.Native.Nat.{ℕ, ◌/◌, ◌%◌, ◌^◌, ◌≤◌, ◌<◌}
 use native.Mathlib.Omega.{arith}
 use native.Mathlib.Nat.{div-add-mod'}
@@ -126,68 +126,68 @@ mark_dotless true = refl
 mark_dotless false = refl
 
 pub name_dotless : (o : Option Text) → legal_name o ≡ true → free dot (named o) ≡ true
-name_dotless none k = refl
-name_dotless (some w) k = run_dotless 90 refl w (and_true (all (run_char 90) w) (within 1 16 (length w)) k).0
+name_dotless None k = refl
+name_dotless (Some w) k = run_dotless 90 refl w (and_true (all (run_char 90) w) (within 1 16 (length w)) k).0
 
 mark_right : (p : Bool) → same (mark p) (ascii "P") ≡ p
 mark_right true = refl
 mark_right false = refl
 
 pub name_right : (o : Option Text) → legal_name o ≡ true → nonempty (named o) ≡ o
-name_right none k = refl
-name_right (some []) k = cc
-name_right (some (x ∷ w)) k = refl
+name_right None k = refl
+name_right (Some []) k = cc
+name_right (Some (x ∷ w)) k = refl
 
 -- the pieces behind the key
 abbrev pub behind : Bool → Option Text → Option Text → List Text
-behind p i (some w) = mark p ∷ named i ∷ w ∷ []
-behind p (some v) none = mark p ∷ v ∷ []
-behind true none none = ascii "P" ∷ []
-behind false none none = []
+behind p i (Some w) = mark p ∷ named i ∷ w ∷ []
+behind p (Some v) None = mark p ∷ v ∷ []
+behind true None None = ascii "P" ∷ []
+behind false None None = []
 
 pub split_kd : (k : Text) → free dot k ≡ true → (p : Bool) (i j : Option Text) → legal_name i ≡ true
     → legal_name j ≡ true → split (k ++ subfields p i j) ≡ k ∷ behind p i j
-split_kd k f p i (some w) a b =
+split_kd k f p i (Some w) a b =
     rw (
       split_more k (mark p ++ (sub (named i) ++ sub w)) f,
       split_more (mark p) (named i ++ sub w) (mark_dotless p),
       split_more (named i) w (name_dotless i a),
-      split_one w (name_dotless (some w) b),
+      split_one w (name_dotless (Some w) b),
     )
-split_kd k f p (some v) none a b =
+split_kd k f p (Some v) None a b =
     rw (
       split_more k (mark p ++ sub v) f,
       split_more (mark p) v (mark_dotless p),
-      split_one v (name_dotless (some v) a),
+      split_one v (name_dotless (Some v) a),
     )
-split_kd k f true none none a b = rw (split_more k (ascii "P") f)
-split_kd k f false none none a b = rw (append-nil k, split_one k f)
+split_kd k f true None None a b = rw (split_more k (ascii "P") f)
+split_kd k f false None None a b = rw (append-nil k, split_one k f)
 
 -- what they are guessed to be
 guessed : (k : Text) (p : Bool) (i j : Option Text) → legal_name i ≡ true → legal_name j ≡ true
     → kd_guess (k ∷ behind p i j) ≡ record { key = numeral 16 0 k; p = p; idk1 = i; idk2 = j }
-guessed k p i (some w) a b = rw (mark_right p, name_right i a, name_right (some w) b)
-guessed k p (some v) none a b = rw (mark_right p, name_right (some v) a)
-guessed k true none none a b = refl
-guessed k false none none a b = refl
+guessed k p i (Some w) a b = rw (mark_right p, name_right i a, name_right (Some w) b)
+guessed k p (Some v) None a b = rw (mark_right p, name_right (Some v) a)
+guessed k true None None a b = refl
+guessed k false None None a b = refl
 
 mark_word : (p : Bool) → all word_char (sub (mark p)) ≡ true
 mark_word true = refl
 mark_word false = refl
 
 name_word : (o : Option Text) → legal_name o ≡ true → all word_char (sub (named o)) ≡ true
-name_word none k = refl
-name_word (some w) k = is_run_word 90 1 16 (omega arith) w k
+name_word None k = refl
+name_word (Some w) k = is_run_word 90 1 16 (omega arith) w k
 
 subfields_word : (p : Bool) (i j : Option Text) → legal_name i ≡ true → legal_name j ≡ true
     → all word_char (subfields p i j) ≡ true
-subfields_word p i (some w) a b =
+subfields_word p i (Some w) a b =
     all_append word_char (sub (mark p)) (sub (named i) ++ sub w) (mark_word p)
-    (all_append word_char (sub (named i)) (sub w) (name_word i a) (name_word (some w) b))
-subfields_word p (some v) none a b =
-    all_append word_char (sub (mark p)) (sub v) (mark_word p) (name_word (some v) a)
-subfields_word true none none a b = refl
-subfields_word false none none a b = refl
+    (all_append word_char (sub (named i)) (sub w) (name_word i a) (name_word (Some w) b))
+subfields_word p (Some v) None a b =
+    all_append word_char (sub (mark p)) (sub v) (mark_word p) (name_word (Some v) a)
+subfields_word true None None a b = refl
+subfields_word false None None a b = refl
 
 pub keyed_right : (d : ℕ) → Right word_char (keyed d)
 keyed_right d = record {

@@ -1,8 +1,8 @@
 -- For programs: KD's contents are read by a test of the pieces between its dots.
+use Rattle.std.specs.Prelude.{Option, None, Some}
 use mathlib.Core.Path.{◌≡◌, refl, sym, ap, ◌∙◌}
 use mathlib.Core.Bool.{Bool, true, false, cond, ◌&&◌, ◌||◌, true≢false}
 use mathlib.Core.List.{List, [], ◌∷◌, ◌++◌, append-nil}
-use mathlib.Core.Option.{Option, none, some}
 use Prim.Native.Nat.{ℕ}
 use lib.Dec.{eqb}
 use borrow.Author.Tests.{eqb-true}
@@ -87,7 +87,7 @@ name_back : (w : Text) → is_maybe_name w ≡ true → (legal_name (nonempty w)
 name_back [] k = (refl, refl)
 name_back (x ∷ w) k = (k, refl)
 
-whole_name : (w : Text) → is_name w ≡ true → (legal_name (nonempty w) ≡ true) × (nonempty w ≡ some w)
+whole_name : (w : Text) → is_name w ≡ true → (legal_name (nonempty w) ≡ true) × (nonempty w ≡ Some w)
 whole_name [] k = (cc, cc)
 whole_name (x ∷ w) k = (k, refl)
 
@@ -129,16 +129,16 @@ mark_passes true = refl
 mark_passes false = refl
 
 name_passes : (o : Option Text) → legal_name o ≡ true → is_maybe_name (named o) ≡ true
-name_passes none k = refl
-name_passes (some []) k = refl
-name_passes (some (x ∷ w)) k = k
+name_passes None k = refl
+name_passes (Some []) k = refl
+name_passes (Some (x ∷ w)) k = k
 
 subs_pass : (p : Bool) (i j : Option Text) → legal_name i ≡ true → legal_name j ≡ true
     → is_subs (behind p i j) ≡ true
-subs_pass p i (some w) a b = rw (mark_passes p, name_passes i a) b
-subs_pass p (some v) none a b = rw (mark_passes p) a
-subs_pass true none none a b = refl
-subs_pass false none none a b = refl
+subs_pass p i (Some w) a b = rw (mark_passes p, name_passes i a) b
+subs_pass p (Some v) None a b = rw (mark_passes p) a
+subs_pass true None None a b = refl
+subs_pass false None None a b = refl
 
 pub kd_passes : (r : Kd) → Legal r → is_kd (split (kd.text r)) ≡ true
 kd_passes r e =
@@ -148,6 +148,6 @@ kd_passes r e =
     ap is_kd (split_kd (hex_text 16 r.key) (hex_dotless 16 r.key) r.p r.idk1 r.idk2 i.0 i.1)
     ∙ (λ x. hex_passes 16 r.key x && s x)
 
-pub kd_value : (w : Text) → value kd w ≡ cond (is_kd (split w)) (some (kd_guess (split w))) none
+pub kd_value : (w : Text) → value kd w ≡ cond (is_kd (split w)) (Some (kd_guess (split w))) None
 kd_value = value_test kd (λ w. is_kd (split w))
     (λ w e. let h = kd_forth (split w) e in (h.0, h.1 ∙ join_split w)) kd_passes

@@ -1,8 +1,8 @@
 -- No field is longer than its longest contents, so no message of known fields is longer than 237 bytes.
+use Rattle.std.specs.Prelude.{Option, None, Some}
 use mathlib.Core.Path.{◌≡◌, refl, sym, ap, ◌∙◌}
 use mathlib.Core.Bool.{Bool, true, false, ◌&&◌, true≢false}
 use mathlib.Core.List.{[], ◌∷◌, ◌++◌}
-use mathlib.Core.Option.{Option, none, some}
 use Prim.Native.Nat.{ℕ, ◌+◌, ◌≤◌}
 use native.Mathlib.Omega.{arith}
 use lib.Dec.{leb}
@@ -53,26 +53,26 @@ mark_length true = omega arith
 mark_length false = omega arith
 
 name_length : (o : Option Text) → legal_name o ≡ true → length (sub (named o)) ≤ 17
-name_length none k = omega arith
-name_length (some w) k = let i = run_length 90 1 16 w k in omega arith
+name_length None k = omega arith
+name_length (Some w) k = let i = run_length 90 1 16 w k in omega arith
 
 subfields_length : (p : Bool) (i j : Option Text) → legal_name i ≡ true → legal_name j ≡ true
     → length (subfields p i j) ≤ 36
-subfields_length p i (some w) a b =
+subfields_length p i (Some w) a b =
     let l = mark_length p in
     let m = name_length i a in
-    let n = name_length (some w) b in
+    let n = name_length (Some w) b in
     omega (
       arith,
       length-append (sub (mark p)) (sub (named i) ++ sub w),
       length-append (sub (named i)) (sub w),
     )
-subfields_length p (some v) none a b =
+subfields_length p (Some v) None a b =
     let l = mark_length p in
-    let n = name_length (some v) a in
+    let n = name_length (Some v) a in
     omega (arith, length-append (sub (mark p)) (sub v))
-subfields_length true none none a b = omega arith
-subfields_length false none none a b = omega arith
+subfields_length true None None a b = omega arith
+subfields_length false None None a b = omega arith
 
 kd_length : (r : Kd) → kd.legal r ≡ true → length (kd.text r) ≤ 52
 kd_length r k =
@@ -127,8 +127,8 @@ field_length f a k =
 
 pub maybe_length : (f : Field) (o : Option (Contents f)) → maybe_legal (field f) o ≡ true
     → length (maybe_print (field f) o) ≤ length (tag f) + longest_contents f
-maybe_length f none k = omega arith
-maybe_length f (some a) k = field_length f a k
+maybe_length f None k = omega arith
+maybe_length f (Some a) k = field_length f a k
 
 pub row_length : (rs : Row) (v : Values rs) → (fields rs []).legal v ≡ true
     → length ((fields rs []).print v) ≤ longest rs

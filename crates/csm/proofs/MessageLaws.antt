@@ -1,8 +1,8 @@
 -- The format of a message is lawful: its rows, its classes, its options, all of it.
+use Rattle.std.specs.Prelude.{Option, None, Some}
 use mathlib.Core.Path.{◌≡◌, refl, sym, ap, ◌∙◌, subst}
 use mathlib.Core.Bool.{Bool, true, false, ◌&&◌, ◌||◌}
 use mathlib.Core.List.{List, [], ◌∷◌, ◌++◌, append_assoc}
-use mathlib.Core.Option.{Option, none, some}
 use Prim.Native.Char.{code}
 use lib.ListN.{length, drop}
 use Rattle.octets.specs.Text.{Text, ascii, all, starts, is_name}
@@ -40,7 +40,7 @@ apart (one f ∷ rs) end = apart rs end
 apart (opt f ∷ rs) end = apart_from (tag f) rs end && apart rs end
 
 pub apart_none : (w : Text) (rs : Row) (end : Text) → apart_from w rs end ≡ true
-    → (v : Values rs) (t : Text) → after w ((fields rs end).print v ++ t) ≡ none
+    → (v : Values rs) (t : Text) → after w ((fields rs end).print v ++ t) ≡ None
 apart_none w [] end k v t = clash_none w end t k
 apart_none w (one f ∷ rs) end k v t = simp append_assoc (clash_none w (tag f) _ k)
 apart_none w (opt f ∷ rs) end k v t = go v.0 (and_true (clash w (tag f)) (apart_from w rs end) k)
@@ -48,10 +48,10 @@ apart_none w (opt f ∷ rs) end k v t = go v.0 (and_true (clash w (tag f)) (apar
   where
     go : (o : _) → (clash w (tag f) ≡ true) × (apart_from w rs end ≡ true)
         → (apart_from w rs end ≡ true → (v : Values rs) (t : Text)
-        → after w ((fields rs end).print v ++ t) ≡ none)
-        → after w ((fields (opt f ∷ rs) end).print (o, v.1) ++ t) ≡ none
-    go none h r = r h.1 v.1 t
-    go (some a) h r = simp append_assoc (clash_none w (tag f) _ h.0)
+        → after w ((fields rs end).print v ++ t) ≡ None)
+        → after w ((fields (opt f ∷ rs) end).print (o, v.1) ++ t) ≡ None
+    go None h r = r h.1 v.1 t
+    go (Some a) h r = simp append_assoc (clash_none w (tag f) _ h.0)
 
 pub fields_lawful : (rs : Row) (end : Text) → apart rs end ≡ true → Lawful (fields rs end)
 fields_lawful [] end k = just_lawful end
@@ -77,8 +77,8 @@ rsi_lawful = record_lawful rsi_row refl rsi_record rsi_values (λ v. refl) (λ r
 
 -- NOS is there or not, and legal either way
 pub flagged_found : (o : Option (Unit {0})) → flagged (found o) ≡ o
-flagged_found none = refl
-flagged_found (some u) = refl
+flagged_found None = refl
+flagged_found (Some u) = refl
 
 pub found_flagged : (b : Bool) → found (flagged b) ≡ b
 found_flagged true = refl
@@ -119,15 +119,15 @@ clash_all w [] = true
 clash_all w (t ∷ ts) = clash w t && clash_all w ts
 
 pub starts_none : (w : Text) (ts : List Text) → clash_all w ts ≡ true
-    → (s t : Text) → starts_any ts s ≡ true → after w (s ++ t) ≡ none
+    → (s t : Text) → starts_any ts s ≡ true → after w (s ++ t) ≡ None
 starts_none w [] c s t k = cc
 starts_none w (x ∷ ts) c s t k = go (starts x s) refl k (and_true (clash w x) (clash_all w ts) c)
     (starts_none w ts)
   where
     go : (b : Bool) → starts x s ≡ b → b || starts_any ts s ≡ true
         → (clash w x ≡ true) × (clash_all w ts ≡ true)
-        → (clash_all w ts ≡ true → (s t : Text) → starts_any ts s ≡ true → after w (s ++ t) ≡ none)
-        → after w (s ++ t) ≡ none
+        → (clash_all w ts ≡ true → (s t : Text) → starts_any ts s ≡ true → after w (s ++ t) ≡ None)
+        → after w (s ++ t) ≡ None
     go false q k h r = r h.1 s t k
     go true q k h r =
         let u = drop (length x) s in
@@ -141,7 +141,7 @@ leads (one f ∷ rs) end ts = clash_all (tag f) ts
 leads (opt f ∷ rs) end ts = clash_all (tag f) ts && leads rs end ts
 
 pub leads_none : (rs : Row) (end : Text) (ts : List Text) → leads rs end ts ≡ true
-    → (s t : Text) → starts_any ts s ≡ true → (fields rs end).read (s ++ t) ≡ none
+    → (s t : Text) → starts_any ts s ≡ true → (fields rs end).read (s ++ t) ≡ None
 leads_none [] end ts k s t h = rw (starts_none end ts k s t h)
 leads_none (one f ∷ rs) end ts k s t h = rw (starts_none (tag f) ts k s t h)
 leads_none (opt f ∷ rs) end ts k s t h =
@@ -149,12 +149,12 @@ leads_none (opt f ∷ rs) end ts k s t h =
     rw (starts_none (tag f) ts i.0 s t h, leads_none rs end ts i.1 s t h)
 
 pub rest_none : (rs : Row) (ts : List Text) → leads rs (ascii ")") ts ≡ true
-    → (s t : Text) → starts_any ts s ≡ true → (closed rs).read ((s ++ code ")" ∷ []) ++ t) ≡ none
+    → (s t : Text) → starts_any ts s ≡ true → (closed rs).read ((s ++ code ")" ∷ []) ++ t) ≡ None
 rest_none rs ts k s t h =
     ap (closed rs).read (append_assoc s (code ")" ∷ []) t) ∙ leads_none rs (ascii ")") ts k s (code ")" ∷ t) h
 
 pub option_unknown : (c : Class) (w t : Text) → is_option c w ≡ true
-    → read_known c ((rest c).print w ++ t) ≡ none
+    → read_known c ((rest c).print w ++ t) ≡ None
 option_unknown RSI w t k = rw (rest_none rsi_row rsi_options refl w t k)
 option_unknown KSM w t k = rw (rest_none ksm_row ksm_options refl w t k)
 option_unknown RSM w t k = cc
@@ -167,7 +167,7 @@ option_unknown RTR w t k = refl
 -- ---- bodies
 
 pub body_there : (b : Body) (t : Text) → legal_body b ≡ true
-    → read_body (class_of b) (print_body b ++ t) ≡ some (b, t)
+    → read_body (class_of b) (print_body b ++ t) ≡ Some (b, t)
 body_there (rsi r) t k = rw (rsi_lawful.there r t k)
 body_there (ksm r) t k = rw (ksm_lawful.there r t k)
 body_there (rsm r) t k = rw (rsm_lawful.there r t k)
@@ -183,15 +183,15 @@ BodyBack c s o = (class_of o.0 ≡ c) × (legal_body o.0 ≡ true) × (s ≡ pri
 pub under_back : {A : Type 0} (f : A → Body) {d : Format A} → Lawful d → (c : Class)
     → ((a : A) → class_of (f a) ≡ c)
     → ((a : A) → legal_body (f a) ≡ d.legal a) → ((a : A) → print_body (f a) ≡ d.print a)
-    → (s : Text) (o : Body × Text) → under f (d.read s) ≡ some o → BodyBack c s o
+    → (s : Text) (o : Body × Text) → under f (d.read s) ≡ Some o → BodyBack c s o
 under_back f {d} l c is ok pr s o e =
-    let h = bind_some (d.read s) (λ p. some (f p.0, p.1)) o e in
+    let h = bind_some (d.read s) (λ p. Some (f p.0, p.1)) o e in
     let a = h.0.0 in
     let i = l.back s a h.0.1 h.1 in
     subst (BodyBack c s) (some_inj h.2)
     (is a, ok a ∙ i.0, i.1 ∙ ap (λ (x : Text). x ++ h.0.1) (sym (pr a)))
 
-pub known_back : (c : Class) (s : Text) (o : Body × Text) → read_known c s ≡ some o → BodyBack c s o
+pub known_back : (c : Class) (s : Text) (o : Body × Text) → read_known c s ≡ Some o → BodyBack c s o
 known_back RSI s o e = under_back rsi rsi_lawful RSI (λ a. refl) (λ a. refl) (λ a. refl) s o e
 known_back KSM s o e = under_back ksm ksm_lawful KSM (λ a. refl) (λ a. refl) (λ a. refl) s o e
 known_back RSM s o e = under_back rsm rsm_lawful RSM (λ a. refl) (λ a. refl) (λ a. refl) s o e
@@ -201,14 +201,14 @@ known_back ERS s o e = absurd (none_some o e)
 known_back RFS s o e = absurd (none_some o e)
 known_back RTR s o e = absurd (none_some o e)
 
-pub body_back : (c : Class) (s : Text) (o : Body × Text) → read_body c s ≡ some o → BodyBack c s o
+pub body_back : (c : Class) (s : Text) (o : Body × Text) → read_body c s ≡ Some o → BodyBack c s o
 body_back c s o e = go (read_known c s) refl e
   where
     go : (k : Option (Body × Text)) → read_known c s ≡ k
-        → or_else k (under (option c) ((rest c).read s)) ≡ some o
+        → or_else k (under (option c) ((rest c).read s)) ≡ Some o
         → BodyBack c s o
-    go none q e = under_back (option c) (rest_lawful c) c (λ a. refl) (λ a. refl) (λ a. refl) s o e
-    go (some p) q e = known_back c s o (q ∙ e)
+    go None q e = under_back (option c) (rest_lawful c) c (λ a. refl) (λ a. refl) (λ a. refl) s o e
+    go (Some p) q e = known_back c s o (q ∙ e)
 
 -- ---- the message
 
@@ -220,11 +220,11 @@ message_lawful = record {
       let first = ap head.read assoc ∙ head_lawful.there (head_of r) (print_body r.body ++ t)
       h.0 in
       let put : Option (Body × Text) → Option (Reading × Text) =
-      λ (o : Option (Body × Text)). bind o (λ q. some (with_body (head_of r) q.0, q.1)) in
+      λ (o : Option (Body × Text)). bind o (λ q. Some (with_body (head_of r) q.0, q.1)) in
       ap (λ (o : Option (Head × Text)). bind o read_after) first ∙ ap put (body_there r.body t h.1);
   back = λ s r t e.
       let h = bind_some (head.read s) read_after (r, t) e in
-      let k = bind_some (read_body h.0.0.0 h.0.1) (λ q. some (with_body h.0.0 q.0, q.1))
+      let k = bind_some (read_body h.0.0.0 h.0.1) (λ q. Some (with_body h.0.0 q.0, q.1))
       (r, t) h.2 in
       let i = head_lawful.back s h.0.0 h.0.1 h.1 in
       let j = body_back h.0.0.0 h.0.1 k.0 k.1 in
@@ -240,13 +240,13 @@ message_lawful = record {
 
 -- ---- of at most 512 bytes
 
-pub read_there : (r : Reading) → legal r ≡ true → read (print r) ≡ some r
+pub read_there : (r : Reading) → legal r ≡ true → read (print r) ≡ Some r
 unfolding read legal print
 read_there r e =
     let k = and_true (message.legal r) (fits (message.print r)) e in
     rw k.1 (whole_there message_lawful r k.0)
 
-pub read_back : (t : Text) (r : Reading) → read t ≡ some r → (legal r ≡ true) × (t ≡ print r)
+pub read_back : (t : Text) (r : Reading) → read t ≡ Some r → (legal r ≡ true) × (t ≡ print r)
 unfolding read legal print
 read_back t r e =
     let h = cond_some (fits t) (whole message t) r e in

@@ -1,9 +1,9 @@
 -- Laws of texts: tests on every byte, fronts of texts, and answers that may be none.
+use Rattle.std.specs.Prelude.{Option, None, Some}
 use mathlib.Core.Path.{◌≡◌, refl, sym, ap, ◌∙◌, subst}
 use mathlib.Core.Bool.{Bool, true, false, cond, not, ◌&&◌, ◌||◌}
 use mathlib.Core.Logic.{⊎_elim}
 use mathlib.Core.List.{[], ◌∷◌, ◌++◌}
-use mathlib.Core.Option.{Option, none, some}
 use Prim.Native.Nat.{ℕ, zero, suc, ◌≤◌, ◌<◌}
 use native.Mathlib.Nat.{eq-or-lt_of_le, le_of_suc-le-suc, not-suc-le-zero}
 use native.Mathlib.Omega.{arith}
@@ -19,21 +19,21 @@ use Rattle.csm.specs.Format.{bind, after, until}
 -- ---- an answer or none
 
 module _ {A : Type 0} where
-  pub some_inj : {a b : A} → some a ≡ some b → a ≡ b
+  pub some_inj : {a b : A} → Some a ≡ Some b → a ≡ b
   some_inj e = cc
 
-  pub none_some : (a : A) → none ≡ some a → ⊥
+  pub none_some : (a : A) → None ≡ Some a → ⊥
   none_some a e = let z : ◌≡◌ {A = ℕ} 0 1 = cc in omega arith
 
-  pub cond_some : (b : Bool) (o : Option A) (a : A) → cond b o none ≡ some a → (b ≡ true) × (o ≡ some a)
+  pub cond_some : (b : Bool) (o : Option A) (a : A) → cond b o None ≡ Some a → (b ≡ true) × (o ≡ Some a)
   cond_some true o a e = (refl, e)
   cond_some false o a e = (cc, cc)
 
 module _ {A B : Type 0} where
-  pub bind_some : (o : Option A) (f : A → Option B) (b : B) → bind o f ≡ some b
-      → (a : A) × (o ≡ some a) × (f a ≡ some b)
-  bind_some none f b e = absurd (none_some _ e)
-  bind_some (some a) f b e = (a, refl, e)
+  pub bind_some : (o : Option A) (f : A → Option B) (b : B) → bind o f ≡ Some b
+      → (a : A) × (o ≡ Some a) × (f a ≡ Some b)
+  bind_some None f b e = absurd (none_some _ e)
+  bind_some (Some a) f b e = (a, refl, e)
 
 -- ---- tests
 
@@ -99,17 +99,17 @@ all_free p x z = all_weaker p (λ y. not (eqb y x)) (λ y k. ap not (go y (eqb y
 
 -- ---- the front of a text
 
-pub after_there : (w t : Text) → after w (w ++ t) ≡ some t
+pub after_there : (w t : Text) → after w (w ++ t) ≡ Some t
 after_there w t = rw (starts_there w t, drop_at w t (length w) refl)
 
-pub after_back : (w s t : Text) → after w s ≡ some t → s ≡ w ++ t
+pub after_back : (w s t : Text) → after w s ≡ Some t → s ≡ w ++ t
 after_back w s t e =
-    let h = cond_some (starts w s) (some (drop (length w) s)) t e in
+    let h = cond_some (starts w s) (Some (drop (length w) s)) t e in
     starts_back w s h.0 ∙ ap (λ (u : Text). w ++ u) (some_inj h.1)
 
 -- ---- a text up to the first x
 
-pub until_there : (x : ℕ) (w t : Text) → free x w ≡ true → until x (w ++ x ∷ t) ≡ some (w, t)
+pub until_there : (x : ℕ) (w t : Text) → free x w ≡ true → until x (w ++ x ∷ t) ≡ Some (w, t)
 until_there x [] t k = rw (eq-eqb x x refl)
 until_there x (y ∷ w) t k =
     let h = and_true (not (eqb y x)) (free x w) k in
@@ -118,27 +118,27 @@ until_there x (y ∷ w) t k =
 abbrev pub UntilBack : ℕ → Text → Text × Text → Type 0
 UntilBack x s o = s ≡ o.0 ++ x ∷ o.1
 
-pub until_back : (x : ℕ) (s : Text) (o : Text × Text) → until x s ≡ some o → UntilBack x s o
+pub until_back : (x : ℕ) (s : Text) (o : Text × Text) → until x s ≡ Some o → UntilBack x s o
 until_back x [] o e = absurd (none_some _ e)
 until_back x (y ∷ s) o e = go (eqb y x) refl e (until_back x s)
   where
     go : (b : Bool) → eqb y x ≡ b
-        → cond b (some ([], s)) (bind (until x s) (λ p. some (y ∷ p.0, p.1))) ≡ some o
-        → ((o : Text × Text) → until x s ≡ some o → UntilBack x s o) → UntilBack x (y ∷ s) o
+        → cond b (Some ([], s)) (bind (until x s) (λ p. Some (y ∷ p.0, p.1))) ≡ Some o
+        → ((o : Text × Text) → until x s ≡ Some o → UntilBack x s o) → UntilBack x (y ∷ s) o
     go true q e r = subst (UntilBack x (y ∷ s)) (some_inj e) (ap (λ (z : ℕ). z ∷ s) (eqb-true y x q))
     go false q e r =
-        let h = bind_some (until x s) (λ p. some (y ∷ p.0, p.1)) o e in
+        let h = bind_some (until x s) (λ p. Some (y ∷ p.0, p.1)) o e in
         subst (UntilBack x (y ∷ s)) (some_inj h.2) (ap (λ (l : Text). y ∷ l) (r h.0 h.1))
 
 -- for programs, that count: the first x stands at place n; or there is none
 pub until_at : (x : ℕ) (s : Text) (n : ℕ) → n < length s → free x (take n s) ≡ true → get_or s n 0 ≡ x
-    → until x s ≡ some (take n s, drop (suc n) s)
+    → until x s ≡ Some (take n s, drop (suc n) s)
 until_at x s n h k e =
     let cut : s ≡ take n s ++ x ∷ drop (suc n) s =
     split_at s n 0 h ∙ ap (λ (y : ℕ). take n s ++ y ∷ drop (suc n) s) e in
     ap (until x) cut ∙ until_there x (take n s) (drop (suc n) s) k
 
-pub until_none : (x : ℕ) (s : Text) → free x s ≡ true → until x s ≡ none
+pub until_none : (x : ℕ) (s : Text) → free x s ≡ true → until x s ≡ None
 until_none x [] k = refl
 until_none x (y ∷ s) k =
     let h = and_true (not (eqb y x)) (free x s) k in
@@ -161,5 +161,5 @@ clash_starts (c ∷ w) (x ∷ v) t k = go (eqb x c) k (clash_starts w v t)
     go true k r = r k
     go false k r = refl
 
-pub clash_none : (w v t : Text) → clash w v ≡ true → after w (v ++ t) ≡ none
+pub clash_none : (w v t : Text) → clash w v ≡ true → after w (v ++ t) ≡ None
 clash_none w v t k = rw (clash_starts w v t k)

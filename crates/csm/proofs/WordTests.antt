@@ -1,18 +1,18 @@
 -- For programs: each kind of contents is read by a test and a fold, without printing anything.
+use Rattle.std.specs.Prelude.{Option, None, Some}
 use mathlib.Core.Path.{◌≡◌, refl, sym, ap, ◌∙◌}
 use mathlib.Core.Bool.{Bool, true, false, cond, not, ◌&&◌, true≢false}
 use mathlib.Core.List.{List, [], ◌∷◌}
-use mathlib.Core.Option.{Option, none, some}
 use Prim.Native.Nat.{ℕ, zero, suc, ◌+◌, ◌*◌, ◌/◌, ◌%◌, ◌^◌, ◌≤◌, ◌<◌}
 use native.Mathlib.Nat.{pow-suc}
 use native.Mathlib.Omega.{arith}
 use lib.Dec.{eqb, leb, ltb}
 use lib.ListN.{length, get_or}
-use borrow.Author.Tests.{eqb-true, le-leb, ltb-true, lt-ltb}
+use borrow.Author.Tests.{eqb-true, le-leb, lt-ltb}
 use Rattle.octets.specs.Text.{Text, ascii, all, free, same, within, run_char, is_run}
 use Rattle.octets.proofs.Comparing.{both as and_true, same_equal as same_true, same_self as same_refl}
 use Rattle.csm.specs.Format.{Word, value, plain}
-use Rattle.csm.specs.Fields.{numeral, hex_text, hex, decimal, count, index, one_of, error_letters}
+use Rattle.csm.specs.Fields.{numeral, hex_text, hex, decimal, count, index, error_letters}
 use Rattle.csm.specs.Fields.{letters_of, letters_guess, erf, has_P}
 use Rattle.csm.proofs.TextLaws.{within_true, true_within}
 use Rattle.csm.proofs.FormatLaws.{value_back}
@@ -23,19 +23,19 @@ use Rattle.csm.proofs.FieldLaws.{below_at}
 pub value_test : {A : Type 0} (c : Word A) (p : Text → Bool)
     → ((w : Text) → p w ≡ true → (c.legal (c.guess w) ≡ true) × (c.text (c.guess w) ≡ w))
     → ((a : A) → c.legal a ≡ true → p (c.text a) ≡ true)
-    → (w : Text) → value c w ≡ cond (p w) (some (c.guess w)) none
+    → (w : Text) → value c w ≡ cond (p w) (Some (c.guess w)) None
 value_test {A} c p f g w = go (p w) refl (value c w) refl
   where
-    go : (b : Bool) → p w ≡ b → (o : Option A) → value c w ≡ o → value c w ≡ cond b (some (c.guess w)) none
+    go : (b : Bool) → p w ≡ b → (o : Option A) → value c w ≡ o → value c w ≡ cond b (Some (c.guess w)) None
     go true q o r = let h = f w q in rw (h.0, h.1, same_refl w)
-    go false q none r = r
-    go false q (some a) r =
+    go false q None r = r
+    go false q (Some a) r =
         let h = value_back c w a r in
         let i : p w ≡ true = ap p h.1 ∙ g a h.0 in
         absurd (true≢false (sym i ∙ q))
 
 -- names, IV, EDK
-pub plain_value : (f : Text → Bool) (w : Text) → value (plain f) w ≡ cond (f w) (some w) none
+pub plain_value : (f : Text → Bool) (w : Text) → value (plain f) w ≡ cond (f w) (Some w) None
 plain_value f = value_test (plain f) f (λ w k. (k, refl)) (λ w k. k)
 
 -- ---- hex numbers
@@ -51,7 +51,7 @@ hex_forth k w e =
 pub hex_passes : (k n : ℕ) → is_run 70 k k (hex_text k n) ≡ true
 hex_passes k n = rw (hex_run k n, hex_length k n, le-leb k k (omega arith))
 
-pub hex_value : (k : ℕ) (w : Text) → value (hex k) w ≡ cond (is_run 70 k k w) (some (numeral 16 0 w)) none
+pub hex_value : (k : ℕ) (w : Text) → value (hex k) w ≡ cond (is_run 70 k k w) (Some (numeral 16 0 w)) None
 hex_value k = value_test (hex k) (is_run 70 k k) (hex_forth k) (λ n e. hex_passes k n)
 
 -- ---- counts
@@ -59,7 +59,7 @@ hex_value k = value_test (hex k) (is_run 70 k k) (hex_forth k) (λ n e. hex_pass
 abbrev pub is_count : Text → Bool
 is_count w = is_run 0 1 8 w && no_zero w
 
-pub count_value : (w : Text) → value count w ≡ cond (is_count w) (some (numeral 10 0 w)) none
+pub count_value : (w : Text) → value count w ≡ cond (is_count w) (Some (numeral 10 0 w)) None
 count_value = value_test count is_count forth back
   where
     forth : (w : Text) → is_count w ≡ true
@@ -101,20 +101,6 @@ index_low (t ∷ ts) (suc i) h = go (same t (get_or ts i [])) (index_low ts i (o
     go : (b : Bool) → index ts (get_or ts i []) ≤ i → cond b zero (suc (index ts (get_or ts i []))) ≤ suc i
     go true l = omega arith
     go false l = omega arith
-
-pub one_of_value : (ts : List Text) (w : Text)
-    → value (one_of ts) w ≡ cond (ltb (index ts w) (length ts)) (some (index ts w)) none
-one_of_value ts = value_test (one_of ts) (λ w. ltb (index ts w) (length ts)) forth back
-  where
-    forth : (w : Text) → ltb (index ts w) (length ts) ≡ true
-        → (ltb (index ts w) (length ts) ≡ true) × (get_or ts (index ts w) [] ≡ w)
-    forth w e = (e, index_back ts w (ltb-true (index ts w) (length ts) e))
-
-    back : (i : ℕ) → ltb i (length ts) ≡ true → ltb (index ts (get_or ts i [])) (length ts) ≡ true
-    back i e =
-        let h = ltb-true i (length ts) e in
-        let l = index_low ts i h in
-        lt-ltb (index ts (get_or ts i [])) (length ts) (omega arith)
 
 -- ---- ERF: letters in order, each at most once, and at least one
 
@@ -167,7 +153,7 @@ erf_low : (w : Text) (n : ℕ) → letters_of error_letters n ≡ w → leb 1 (l
 erf_low w zero e l = absurd (true≢false (sym l ∙ ap (λ (t : Text). leb 1 (length t)) (sym e)))
 erf_low w (suc n) e l = omega arith
 
-pub erf_value : (w : Text) → value erf w ≡ cond (is_erf w) (some (letters_guess error_letters w)) none
+pub erf_value : (w : Text) → value erf w ≡ cond (is_erf w) (Some (letters_guess error_letters w)) None
 erf_value = value_test erf is_erf forth back
   where
     forth : (w : Text) → is_erf w ≡ true

@@ -1,6 +1,5 @@
 -- The part of a KSM or an RSM that its MAC covers: from the M of `MCL/` through the blank before `MAC/`.
-use Rattle.std.specs.Prelude.{cond, [], ◌∷◌, ◌++◌, ℕ, drop}
-use Rattle.std.proofs.Math.Option.{Option, none, some}
+use Rattle.std.specs.Prelude.{cond, [], ◌∷◌, ◌++◌, ℕ, drop, Option, None, Some}
 use Rattle.octets.specs.Text.{Text, ascii, starts}
 use Rattle.csm.specs.Fields.{NOS, KD, IV, EDK, CTP}
 use Rattle.csm.specs.Message.{Row, one, opt, Values, fields, head_row, flagged, head_of}
@@ -17,11 +16,11 @@ covered t = before (ascii "MAC/") (drop 4 t)
 
 -- the classes that have a MAC
 abbrev pub mac_of : Body → Option ℕ
-mac_of (rsi r) = none
-mac_of (ksm r) = some r.mac
-mac_of (rsm r) = some r.mac
-mac_of (esm r) = none
-mac_of (option c w) = none
+mac_of (rsi r) = None
+mac_of (ksm r) = Some r.mac
+mac_of (rsm r) = Some r.mac
+mac_of (esm r) = None
+mac_of (option c w) = None
 
 -- of the reading: the head, then the fields before MAC
 abbrev pub keyed_row : Row

@@ -1,6 +1,5 @@
 -- The fields of a message: their tags and their contents (document 01, "Text of a message").
-use Rattle.std.specs.Prelude.{Bool, true, false, cond, ◌&&◌, List, [], ◌∷◌, ◌++◌, ℕ, zero, suc, ◌+◌, ◌-◌, ◌*◌, ◌/◌, ◌%◌, ◌^◌, eqb, ltb, length, get_or}
-use Rattle.std.proofs.Math.Option.{Option, none, some}
+use Rattle.std.specs.Prelude.{Bool, true, false, cond, ◌&&◌, List, [], ◌∷◌, ◌++◌, ℕ, zero, suc, ◌+◌, ◌-◌, ◌*◌, ◌/◌, ◌%◌, ◌^◌, eqb, ltb, length, get_or, Option, None, Some}
 use Prim.Native.Char.{code}
 use Rattle.octets.specs.Text.{Text, ascii, blank, dot, stands, same, within, is_run, is_name}
 use Rattle.csm.specs.Format.{Word, Format, plain, upto, pre, both, as_form}
@@ -124,20 +123,20 @@ mark false = []
 
 -- a name or nothing
 abbrev pub named : Option Text → Text
-named none = []
-named (some w) = w
+named None = []
+named (Some w) = w
 
 -- what stands after the key
 abbrev pub subfields : Bool → Option Text → Option Text → Text
-subfields p i (some w) = sub (mark p) ++ (sub (named i) ++ sub w)
-subfields p (some v) none = sub (mark p) ++ sub v
-subfields true none none = sub (mark true)
-subfields false none none = []
+subfields p i (Some w) = sub (mark p) ++ (sub (named i) ++ sub w)
+subfields p (Some v) None = sub (mark p) ++ sub v
+subfields true None None = sub (mark true)
+subfields false None None = []
 
 -- a name, if there is one
 abbrev pub legal_name : Option Text → Bool
-legal_name none = true
-legal_name (some w) = is_name w
+legal_name None = true
+legal_name (Some w) = is_name w
 
 -- x before the first piece
 abbrev pub onto : ℕ → List Text → List Text
@@ -151,8 +150,8 @@ split (x ∷ w) = cond (eqb x dot) ([] ∷ split w) (onto x (split w))
 
 -- an empty piece is no name
 abbrev pub nonempty : Text → Option Text
-nonempty [] = none
-nonempty (x ∷ w) = some (x ∷ w)
+nonempty [] = None
+nonempty (x ∷ w) = Some (x ∷ w)
 
 -- key, mark and names by their places
 abbrev pub kd_guess : List Text → Kd

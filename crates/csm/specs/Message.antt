@@ -1,6 +1,5 @@
 -- The text of a message: its classes, their fields in order, and their readings (document 01).
-use Rattle.std.specs.Prelude.{Bool, true, false, cond, not, ◌&&◌, ◌||◌, List, [], ◌∷◌, ◌++◌, ℕ, eqb, length}
-use Rattle.std.proofs.Math.Option.{Option, none, some}
+use Rattle.std.specs.Prelude.{Bool, true, false, cond, not, ◌&&◌, ◌||◌, List, [], ◌∷◌, ◌++◌, ℕ, eqb, length, Option, None, Some}
 use Prim.Native.Char.{code}
 use Rattle.octets.specs.Text.{Text, ascii, blank, all, stands, starts, within, run_char}
 use Rattle.octets.specs.Part.{found}
@@ -101,8 +100,8 @@ rsi_record (svr, (edc, u)) = record { svr = svr; edc = edc }
 
 -- a field without contents, by whether it is there
 abbrev pub flagged : Bool → Option (Unit {0})
-flagged true = some tt
-flagged false = none
+flagged true = Some tt
+flagged false = None
 
 abbrev pub ksm_values : Ksm → Values ksm_row
 ksm_values r = (flagged r.nos, (r.kd, (r.second, (r.iv, (r.edk, (r.ctp, (r.mac, tt)))))))
@@ -220,7 +219,7 @@ print_body (option c w) = (rest c).print w
 
 -- what was read, as a body
 abbrev pub under : {A : Type 0} → (A → Body) → Option (A × Text) → Option (Body × Text)
-under f o = bind o (λ p. some (f p.0, p.1))
+under f o = bind o (λ p. Some (f p.0, p.1))
 
 -- by the class's own fields
 abbrev pub read_known : Class → Text → Option (Body × Text)
@@ -228,15 +227,15 @@ read_known RSI s = under rsi (rsi_form.read s)
 read_known KSM s = under ksm (ksm_form.read s)
 read_known RSM s = under rsm (rsm_form.read s)
 read_known ESM s = under esm (esm_form.read s)
-read_known DSM s = none
-read_known ERS s = none
-read_known RFS s = none
-read_known RTR s = none
+read_known DSM s = None
+read_known ERS s = None
+read_known RFS s = None
+read_known RTR s = None
 
 -- the first reading, or the second
 abbrev pub or_else : Option (Body × Text) → Option (Body × Text) → Option (Body × Text)
-or_else none o = o
-or_else (some p) o = some p
+or_else None o = o
+or_else (Some p) o = Some p
 
 -- or else as an option
 abbrev pub read_body : Class → Text → Option (Body × Text)
@@ -254,7 +253,7 @@ with_body h b = record { rcv = h.1.0; org = h.1.1.0; body = b }
 
 -- the body after its head
 abbrev pub read_after : Head × Text → Option (Reading × Text)
-read_after p = bind (read_body p.0.0 p.1) (λ q. some (with_body p.0 q.0, q.1))
+read_after p = bind (read_body p.0.0 p.1) (λ q. Some (with_body p.0 q.0, q.1))
 
 abbrev pub message : Format Reading
 message = record {
@@ -278,4 +277,4 @@ legal r = message.legal r && fits (print r)
 
 -- the reading of a text, or none
 unfoldable pub read : Text → Option Reading
-read t = cond (fits t) (whole message t) none
+read t = cond (fits t) (whole message t) None

@@ -1,4 +1,2 @@
 pub mod Determined
-pub mod Digits
-pub mod Calendar
 pub mod Numbers

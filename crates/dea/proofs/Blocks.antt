@@ -1,88 +1,71 @@
--- A text's first block by a walk over its bytes, and chaining by a walk over its blocks.
-use mathlib.Core.Path.{◌≡◌, refl, sym, ap, ◌∙◌}
-use mathlib.Core.List.{List, [], ◌∷◌, ◌++◌}
-use Prim.Native.Nat.{ℕ, zero, suc, ◌+◌, ◌-◌, ◌*◌, ◌/◌, ◌^◌, ◌≤◌, ◌<◌}
-use native.Mathlib.Numerals.{add-one}
+-- A text's first block by its bytes, and chaining block by block.
+use mathlib.Core.Path.{◌≡◌, refl, sym, ap, ap₂, ◌∙◌}
+use mathlib.Core.List.{List, [], ◌∷◌, ◌++◌, append_assoc, append-nil}
+use Prim.Native.Nat.{ℕ, zero, suc, ◌+◌, ◌/◌, ◌≤◌, ◌<◌, min}
 use native.Mathlib.Omega.{arith}
-use lib.ListN.{length, get_or, take, drop, length-take, length-append, drop_of_length-le}
-use lib.Seq.{drop-cons, drop-drop, get_or-take}
-use lib.Pow.{pow-add, pow_mono}
+use native.Mathlib.Nat.{le_of_suc-le-suc}
+use lib.ListN.{length, take, drop, length-take, length-append}
 use lib.Bits.{bit_xor}
+use Rattle.std.specs.Int.{from_be_bytes, w64}
+use Rattle.std.proofs.lemmas.List.{take-append-le}
+use Rattle.std.proofs.Math.Seq.{drop-append_seam}
 use Rattle.octets.specs.Text.{Text}
-use Rattle.octets.specs.Number.{number_after, copies}
+use Rattle.octets.specs.Number.{number, copies}
+use Rattle.octets.proofs.Library.{from_bytes_is}
 use Rattle.dea.specs.Dea.{cipher}
 use Rattle.dea.specs.Chain.{first_block, blocks, blocks_of, chain, chained}
 
 -- ---- the first block
 
-abbrev pub padded : Text → Text
-padded s = take 8 (s ++ copies 8 0)
+zeros : (k m : ℕ) → k ≤ m → copies k 0 ≡ take k (copies m 0)
+zeros zero m h = refl
+zeros (suc k) zero h = absurd (omega arith)
+zeros (suc k) (suc m) h = ap (λ (t : Text). 0 ∷ t) (zeros k m (le_of_suc-le-suc h))
 
-padded_length : (s : Text) → length (padded s) ≡ 8
-padded_length s = simp (length-take, length-append) (omega arith)
+padded : (k m : ℕ) (s : Text) → length s ≤ k → k ≤ m → s ++ drop (length s) (copies k 0) ≡ take k (s ++ copies m 0)
+padded k m [] h g = zeros k m g
+padded zero m (x ∷ s) h g = absurd (omega arith)
+padded (suc k) m (x ∷ s) h g = ap (λ (t : Text). x ∷ t) (padded k m s (le_of_suc-le-suc h) (omega arith))
 
--- zero bytes behind a text are what stands past its end
-zeros_at : (s : Text) (k i : ℕ) → get_or (s ++ copies k 0) i 0 ≡ get_or s i 0
-zeros_at [] zero i = refl
-zeros_at [] (suc k) zero = refl
-zeros_at [] (suc k) (suc i) = zeros_at [] k i
-zeros_at (x ∷ s) k zero = refl
-zeros_at (x ∷ s) k (suc i) = zeros_at s k i
-
-padded_at : (s : Text) (i : ℕ) → i < 8 → get_or (padded s) i 0 ≡ get_or s i 0
-padded_at s i h = get_or-take 8 (s ++ copies 8 0) i 0 h ∙ zeros_at s 8 i
-
-pub byte_step : (s : Text) (b v i o : ℕ) → i < 8 → v ≡ get_or s i 0
-    → number_after b (drop i (padded s)) ≡ o → number_after (b * 256 + v) (drop (i + 1) (padded s)) ≡ o
-byte_step s b v i o hi e h =
-    rw (add-one, e, ← padded_at s i hi)
-    (sym (ap (number_after b) (drop-cons (padded s) i 0 (omega (arith, padded_length s)))) ∙ h)
-
-pub block_end : (s : Text) (b i o : ℕ) → 8 ≤ i → number_after b (drop i (padded s)) ≡ o → b ≡ o
-block_end s b i o hi h =
-    let n : length (padded s) ≤ i = omega (arith, padded_length s) in
-    sym (ap (number_after b) (drop_of_length-le (padded s) n)) ∙ h
-
-pub byte_more : (b v i : ℕ) → b < 2 ^ (8 * i) → v < 256 → b * 256 + v < 2 ^ (8 * (i + 1))
-byte_more b v i hb hv =
-    let p : 2 ^ (8 * (i + 1)) ≡ 2 ^ (8 * i) * 256 = ap (λ (x : ℕ). 2 ^ x) (omega arith) ∙ pow-add 2 (8 * i) 8 in
-    omega arith
-
-pub byte_low : (b i : ℕ) → b < 2 ^ (8 * i) → i < 8 → b < 2 ^ 56
-byte_low b i h hi =
-    let m : 8 * i ≤ 56 = omega arith in
-    omega (arith, pow_mono m)
+-- a text over the front of eight zero bytes
+pub block_of : (s : Text) → length s ≤ 8 → from_be_bytes w64 (s ++ drop (length s) (copies 8 0)) ≡ first_block s
+unfolding first_block
+block_of s h =
+    let e = padded 8 8 s h (omega arith) in
+    let l : length (take 8 (s ++ copies 8 0)) ≡ 8 = simp (length-take, length-append) (omega arith) in
+    ap (from_be_bytes w64) e ∙ from_bytes_is (take 8 (s ++ copies 8 0)) l
 
 -- ---- the blocks
 
-next_blocks : (n left next : ℕ) (s : Text) → left ≤ length s → next ≡ left - 8 → n ≡ (next + 7) / 8
-    → blocks n (drop 8 (drop (length s - left) s)) ≡ blocks n (drop (length s - next) s)
-next_blocks zero left next s h e q = refl
-next_blocks (suc n) left next s h e q =
-    let k : length s - left + 8 ≡ length s - next = omega arith in
-    ap (blocks (suc n)) (drop-drop 8 (length s - left) s ∙ ap (λ (j : ℕ). drop j s) k)
-
--- with so much of the text left: one block more
-pub chain_step : (ks : List ℕ) (output v left next o : ℕ) (s : Text) → 0 < left → left ≤ length s
-    → v ≡ cipher ks (bit_xor output (first_block (drop (length s - left) s))) → next ≡ left - 8
-    → chain ks output (blocks ((left + 7) / 8) (drop (length s - left) s)) ≡ o
-    → chain ks v (blocks ((next + 7) / 8) (drop (length s - next) s)) ≡ o
-chain_step ks output v left next o s hl hs ev en h =
-    let n = (next + 7) / 8 in
-    let e : (left + 7) / 8 ≡ suc n = omega arith in
-    let t = next_blocks n left next s hs en refl in
-    rw ev
-    (ap (chain ks (cipher ks (bit_xor output (first_block (drop (length s - left) s))))) (sym t)
-    ∙ ap (λ (m : ℕ). chain ks output (blocks m (drop (length s - left) s))) (sym e) ∙ h)
-
-pub chain_start : (ks : List ℕ) (start : ℕ) (s : Text)
-    → chain ks start (blocks ((length s + 7) / 8) (drop (length s - length s) s)) ≡ chained ks start s
+-- where nothing is left, no block
+pub no_block : (ks : List ℕ) (output : ℕ) (s : Text) → length s ≡ 0 → chained ks output s ≡ output
 unfolding chained blocks_of
-chain_start ks start s =
-    let z : length s - length s ≡ 0 = omega arith in
-    ap (λ (n : ℕ). chain ks start (blocks ((length s + 7) / 8) (drop n s))) z
+no_block ks output s h = let n : (length s + 7) / 8 ≡ 0 = omega arith in ap (λ (m : ℕ). chain ks output (blocks m s)) n
 
-pub chain_end : (ks : List ℕ) (output left o : ℕ) (s : Text) → left ≤ 0
-    → chain ks output (blocks ((left + 7) / 8) (drop (length s - left) s)) ≡ o → output ≡ o
-chain_end ks output zero o s z h = h
-chain_end ks output (suc left) o s z h = absurd (omega arith)
+same_block : (s t : Text) → length s ≡ min 8 (length (s ++ t)) → first_block (s ++ t) ≡ first_block s
+unfolding first_block
+same_block s [] e = simp append-nil
+same_block s (x ∷ t) e =
+    let l : length s ≡ 8 = omega (arith, length-append s (x ∷ t)) in
+    ap number (ap (take 8) (append_assoc s (x ∷ t) (copies 8 0)) ∙ take-append-le 8 s _ (omega arith)
+    ∙ sym (take-append-le 8 s (copies 8 0) (omega arith)))
+
+blocks_after : (s t : Text) → length s ≡ min 8 (length (s ++ t))
+    → blocks ((length t + 7) / 8) (drop 8 (s ++ t)) ≡ blocks ((length t + 7) / 8) t
+blocks_after s [] e = refl
+blocks_after s (x ∷ t) e =
+    let l : 8 ≡ length s = omega (arith, length-append s (x ∷ t)) in
+    ap (blocks ((length (x ∷ t) + 7) / 8)) (ap (λ (n : ℕ). drop n (s ++ x ∷ t)) l ∙ drop-append_seam s (x ∷ t))
+
+chained_block : (ks : List ℕ) (output : ℕ) (s t : Text) → length s ≡ min 8 (length (s ++ t)) → 0 < length (s ++ t)
+    → chained ks output (s ++ t) ≡ chained ks (cipher ks (bit_xor output (first_block s))) t
+unfolding chained blocks_of
+chained_block ks output s t e p =
+    let n : (length (s ++ t) + 7) / 8 ≡ suc ((length t + 7) / 8) = omega (arith, length-append s t) in
+    ap (λ (m : ℕ). chain ks output (blocks m (s ++ t))) n
+    ∙ ap₂ (λ (b : ℕ) (bs : List ℕ). chain ks (cipher ks (bit_xor output b)) bs) (same_block s t e) (blocks_after s t e)
+
+-- the text is the first block's bytes and what is left
+pub next_block : (ks : List ℕ) (output : ℕ) (s bytes rest : Text) → s ≡ bytes ++ rest → length bytes ≡ min 8 (length s) → 0 < length s
+    → chained ks output s ≡ chained ks (cipher ks (bit_xor output (first_block bytes))) rest
+next_block ks output s bytes rest e n p = rw e (chained_block ks output bytes rest (rw e at n) (rw e at p))

@@ -17,7 +17,7 @@ f_lt : (r k : ℕ) → f r k < 2 ^ 32
 unfolding f P
 f_lt r k = permute_lt 32 P _
 
-pub step_lt : (l r k : ℕ) → l < 2 ^ 32 → bit_xor l (f r k) < 2 ^ 32
+step_lt : (l r k : ℕ) → l < 2 ^ 32 → bit_xor l (f r k) < 2 ^ 32
 step_lt l r k hl = xor_lt 32 l (f r k) hl (f_lt r k)
 
 iterate_lt : (ks : List ℕ) (l r : ℕ) → l < 2 ^ 32 → r < 2 ^ 32 → iterate ks l r < 2 ^ 64

@@ -4,7 +4,7 @@ use Prim.Native.Nat.{ℕ, zero, suc, ◌+◌, ◌*◌, ◌/◌, ◌%◌, ◌<◌
 use native.Mathlib.Nat.{div-add-mod'}
 use native.Mathlib.Omega.{arith}
 use lib.Arith.{bin_ind}
-use lib.Bits.{bit_xor, bit_and, xor_shr, xor_mod, xor_self, xor_zero_r, xor_comm, and_shr, and_mod}
+use lib.Bits.{bit_xor, bit_and, xor_shr, xor_mod, xor_self, xor_zero_r, xor_comm, xor_assoc, and_shr, and_mod}
 
 half : (a b : ℕ) → bit_xor a b / 2 ≡ bit_xor (a / 2) (b / 2)
 half a b = xor_shr a b 1
@@ -14,26 +14,6 @@ last a b = xor_mod a b 1
 
 by_half_and_last : {x y : ℕ} → x / 2 ≡ y / 2 → x % 2 ≡ y % 2 → x ≡ y
 by_half_and_last {x} {y} p q = sym (div-add-mod' x 2) ∙ ap₂ (λ (u v : ℕ). u * 2 + v) p q ∙ div-add-mod' y 2
-
-xor_assoc_bits : (u v w : ℕ) → u < 2 → v < 2 → w < 2 → bit_xor (bit_xor u v) w ≡ bit_xor u (bit_xor v w)
-xor_assoc_bits zero v w hu hv hw = refl
-xor_assoc_bits (suc zero) zero w hu hv hw = refl
-xor_assoc_bits (suc zero) (suc zero) zero hu hv hw = refl
-xor_assoc_bits (suc zero) (suc zero) (suc zero) hu hv hw = refl
-xor_assoc_bits (suc zero) (suc zero) (suc (suc w)) hu hv hw = omega arith
-xor_assoc_bits (suc zero) (suc (suc v)) w hu hv hw = omega arith
-xor_assoc_bits (suc (suc u)) v w hu hv hw = omega arith
-
-pub xor_assoc : (a b c : ℕ) → bit_xor (bit_xor a b) c ≡ bit_xor a (bit_xor b c)
-xor_assoc =
-    bin_ind (λ (n : ℕ). (b c : ℕ) → bit_xor (bit_xor n b) c ≡ bit_xor n (bit_xor b c)) (λ b c. refl)
-    (λ n ih b c.
-    by_half_and_last
-    (half (bit_xor n b) c ∙ ap (λ (x : ℕ). bit_xor x (c / 2)) (half n b) ∙ ih (b / 2) (c / 2)
-    ∙ sym (half n (bit_xor b c) ∙ ap (λ (x : ℕ). bit_xor (n / 2) x) (half b c)))
-    (last (bit_xor n b) c ∙ ap (λ (x : ℕ). bit_xor x (c % 2)) (last n b)
-    ∙ xor_assoc_bits (n % 2) (b % 2) (c % 2) (omega arith) (omega arith) (omega arith)
-    ∙ sym (last n (bit_xor b c) ∙ ap (λ (x : ℕ). bit_xor (n % 2) x) (last b c))))
 
 pub xor_cancel : (a b : ℕ) → bit_xor (bit_xor a b) b ≡ a
 xor_cancel a b = xor_assoc a b b ∙ ap (λ (x : ℕ). bit_xor a x) (xor_self b) ∙ xor_zero_r a

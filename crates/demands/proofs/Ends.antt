@@ -1,8 +1,8 @@
 -- One host's call, and the call that the card of crate `line` makes.
+use Rattle.std.specs.Prelude.{Option, None, Some}
 use mathlib.Core.Path.{◌≡◌, refl, sym, ap, ◌∙◌, subst}
 use mathlib.Core.List.{List, []}
 use mathlib.Core.Logic.{◌≢◌, ◌↔◌}
-use mathlib.Core.Option.{Option, none, some}
 use Prim.Native.Nat.{ℕ}
 use lib.Dec.{eqb}
 use lib.ListN.{length}
@@ -63,13 +63,13 @@ module _ (n : ℕ) (not_done : n ≢ 0) (image buffer : Text) where
   refused_counted id (remove partner) = refl
 
 -- the steps: what is sent is what the card of `line` writes
-module _ (image buffer : Text) (t : Table) (octets : Bytes image) (is : decode image ≡ some t) where
+module _ (image buffer : Text) (t : Table) (octets : Bytes image) (is : decode image ≡ Some t) where
   none_sent : {c : steps.Call} (d : steps.Call) → c ≡ d → (run t c).outcome.reply ≡ []
       → [] ≡ texts (run t d).outcome.reply
   unfolding texts
   none_sent d p h = ap texts (sym h) ∙ ap (λ (x : steps.Call). texts (run t x).outcome.reply) p
 
-  step_sent : (c : Call) (d : steps.Call) → OfBytes c → step_of (length buffer) c ≡ some d
+  step_sent : (c : Call) (d : steps.Call) → OfBytes c → step_of (length buffer) c ≡ Some d
       → sent c (stepped image buffer c (run t d)) ≡ texts (run t d).outcome.reply
   unfolding sent
   step_sent (receive text) d o e = ap texts (as_stepped image buffer t octets is (receive text) d o e).reply
@@ -81,13 +81,13 @@ module _ (image buffer : Text) (t : Table) (octets : Bytes image) (is : decode i
   step_sent (give_up partner) d o e = none_sent d (some_inj e) (give_up_silent t partner)
   step_sent (load partner name key) d o e = go (top_in key) e
     where
-      go : (top : Option Top) → loading partner name top ≡ some d → [] ≡ texts (run t d).outcome.reply
-      go none e = absurd (none_some _ e)
-      go (some top) e = none_sent d (some_inj e) (load_silent t partner name top)
+      go : (top : Option Top) → loading partner name top ≡ Some d → [] ≡ texts (run t d).outcome.reply
+      go None e = absurd (none_some _ e)
+      go (Some top) e = none_sent d (some_inj e) (load_silent t partner name top)
   step_sent (remove partner) d o e = none_sent d (some_inj e) (remove_silent t partner)
 
   -- what it accepts is what that card accepts
-  step_counted : (id : Text) (c : Call) (d : steps.Call) (answer : ℕ) → step_of (length buffer) c ≡ some d
+  step_counted : (id : Text) (c : Call) (d : steps.Call) (answer : ℕ) → step_of (length buffer) c ≡ Some d
       → counted id c answer ≡ line.counted id d answer
   unfolding counted line.counted
   step_counted id (receive text) d n e = ap (λ (x : steps.Call). line.counted id x n) (some_inj e)
@@ -97,9 +97,9 @@ module _ (image buffer : Text) (t : Table) (octets : Bytes image) (is : decode i
   step_counted id (give_up partner) d n e = ap (λ (x : steps.Call). line.counted id x n) (some_inj e)
   step_counted id (load partner name key) d n e = go (top_in key) e
     where
-      go : (top : Option Top) → loading partner name top ≡ some d → [] ≡ line.counted id d n
-      go none e = absurd (none_some _ e)
-      go (some top) e = ap (λ (x : steps.Call). line.counted id x n) (some_inj e)
+      go : (top : Option Top) → loading partner name top ≡ Some d → [] ≡ line.counted id d n
+      go None e = absurd (none_some _ e)
+      go (Some top) e = ap (λ (x : steps.Call). line.counted id x n) (some_inj e)
   step_counted id (remove partner) d n e = ap (λ (x : steps.Call). line.counted id x n) (some_inj e)
 
 -- ---- both ends
@@ -107,7 +107,7 @@ module _ (image buffer : Text) (t : Table) (octets : Bytes image) (is : decode i
 module _ (name : Text) (top : Top) where
   -- what is asked of a call is what is asked of the call that it makes
   allowed : (other : Text) (wrote : List Text) (c : Call) (room : ℕ) (d : steps.Call) (answer : ℕ) → OfBytes c
-      → step_of room c ≡ some d → Allowed name top other wrote c answer → line.Allowed name top other wrote d answer
+      → step_of room c ≡ Some d → Allowed name top other wrote c answer → line.Allowed name top other wrote d answer
   unfolding Allowed line.Allowed
   allowed other wrote (receive text) room d n o e may =
       subst (λ (x : steps.Call). line.Allowed name top other wrote x n) (some_inj e) may
@@ -123,10 +123,10 @@ module _ (name : Text) (top : Top) where
       subst (λ (x : steps.Call). line.Allowed name top other wrote x n) (some_inj e) tt
   allowed other wrote (load partner key_name key) room d n o e may = go (top_in key) refl e
     where
-      go : (k : Option Top) → top_in key ≡ k → loading partner key_name k ≡ some d
+      go : (k : Option Top) → top_in key ≡ k → loading partner key_name k ≡ Some d
           → line.Allowed name top other wrote d n
-      go none q e = absurd (none_some _ e)
-      go (some k) q e =
+      go None q e = absurd (none_some _ e)
+      go (Some k) q e =
           subst (λ (x : steps.Call). line.Allowed name top other wrote x n) (some_inj e)
           (λ z p. ((may z p).0, some_inj (sym q ∙ (may z p).1)))
   allowed other wrote (remove partner) room d n o e may =
@@ -134,7 +134,7 @@ module _ (name : Text) (top : Top) where
 
   -- and the other way round
   allowed_back : (other : Text) (wrote : List Text) (c : Call) (room : ℕ) (d : steps.Call) (answer : ℕ)
-      → step_of room c ≡ some d → line.Allowed name top other wrote d answer → Allowed name top other wrote c answer
+      → step_of room c ≡ Some d → line.Allowed name top other wrote d answer → Allowed name top other wrote c answer
   unfolding Allowed line.Allowed
   allowed_back other wrote (receive text) room d n e may =
       subst (λ (x : steps.Call). line.Allowed name top other wrote x n) (sym (some_inj e)) may
@@ -144,17 +144,17 @@ module _ (name : Text) (top : Top) where
   allowed_back other wrote (give_up partner) room d n e may = tt
   allowed_back other wrote (load partner key_name key) room d n e may = go (top_in key) refl e
     where
-      go : (k : Option Top) → top_in key ≡ k → loading partner key_name k ≡ some d
-          → n ≡ 0 → partner ≡ other → (key_name ≡ name) × (top_in key ≡ some top)
-      go none q e z p = absurd (none_some _ e)
-      go (some k) q e z p =
+      go : (k : Option Top) → top_in key ≡ k → loading partner key_name k ≡ Some d
+          → n ≡ 0 → partner ≡ other → (key_name ≡ name) × (top_in key ≡ Some top)
+      go None q e z p = absurd (none_some _ e)
+      go (Some k) q e z p =
           let m = subst (λ (x : steps.Call). line.Allowed name top other wrote x n) (sym (some_inj e)) may in
-          ((m z p).0, q ∙ ap {B = Option Top} some (m z p).1)
+          ((m z p).0, q ∙ ap {B = Option Top} Some (m z p).1)
   allowed_back other wrote (remove partner) room d n e may =
       subst (λ (x : steps.Call). line.Allowed name top other wrote x n) (sym (some_inj e)) may
 
   pub asked_alike : (other : Text) (wrote : List Text) (c : Call) (d : steps.Call) (room answer : ℕ) → OfBytes c
-      → step_of room c ≡ some d → Allowed name top other wrote c answer ↔ line.Allowed name top other wrote d answer
+      → step_of room c ≡ Some d → Allowed name top other wrote c answer ↔ line.Allowed name top other wrote d answer
   asked_alike other wrote c d room n o e =
       (allowed other wrote c room d n o e, allowed_back other wrote c room d n e)
 
@@ -163,12 +163,12 @@ module _ (name : Text) (top : Top) where
     stays : kept c l ≡ image → sent c l ≡ [] → ((id : Text) → counted id c l.answer ≡ [])
         → Moves other wrote image t c l
     moves : (d : steps.Call) → line.Allowed name top other wrote d (run t d).outcome.answer
-        → decode (kept c l) ≡ some (run t d).table → Bytes (kept c l) → sent c l ≡ texts (run t d).outcome.reply
+        → decode (kept c l) ≡ Some (run t d).table → Bytes (kept c l) → sent c l ≡ texts (run t d).outcome.reply
         → ((id : Text) → counted id c l.answer ≡ line.counted id d (run t d).outcome.answer)
         → Moves other wrote image t c l
 
   pub moved : (other : Text) (wrote : List Text) (image buffer : Text) (t : Table) (c : Call) (l : Left) → Bytes image
-      → decode image ≡ some t → OfBytes c → Allowed name top other wrote c l.answer → Way image buffer c l
+      → decode image ≡ Some t → OfBytes c → Allowed name top other wrote c l.answer → Way image buffer c l
       → Moves other wrote image t c l
   unfolding left
   moved other wrote image buffer t c l octets is o may (refuses n m h k) =

@@ -1,9 +1,9 @@
 -- Demand 1.
+use Rattle.std.specs.Prelude.{Option, None, Some}
 use mathlib.Core.Path.{◌≡◌, refl, sym, ap, ◌∙◌, subst}
 use mathlib.Core.List.Memᴰ
 use mathlib.Core.List.{List, [], ◌∷◌, ◌++◌}
 use mathlib.Core.Logic.{◌≢◌}
-use mathlib.Core.Option.{Option, none, some}
 use Prim.Native.Nat.{ℕ}
 use native.Mathlib.Omega.{arith}
 use lib.Dec.{eqb}
@@ -45,7 +45,7 @@ use Rattle.demands.proofs.Stepping.{in_bytes_answer, short}
 made : {c d : steps.Call} (l : List ℕ) (t : Table) → c ≡ d → (run t c).outcome.answer ∈ l → (run t d).outcome.answer ∈ l
 made l t p m = subst (λ (x : steps.Call). (run t x).outcome.answer ∈ l) p m
 
-step_gives : (c : Call) (room : ℕ) (t : Table) (d : steps.Call) → step_of room c ≡ some d
+step_gives : (c : Call) (room : ℕ) (t : Table) (d : steps.Call) → step_of room c ≡ Some d
     → (run t d).outcome.answer ∈ answers_of c
 step_gives (receive text) room t d e = made _ t (some_inj e) (run_gives t _ _ refl)
 step_gives (build_ksm partner request) room t d e = made _ t (some_inj e) (run_gives t _ _ refl)
@@ -54,10 +54,10 @@ step_gives (ask partner) room t d e = made _ t (some_inj e) (run_gives t _ _ ref
 step_gives (give_up partner) room t d e = made _ t (some_inj e) (run_gives t _ _ refl)
 step_gives (load partner name key) room t d e = go (top_in key) e
   where
-    go : (o : Option Top) → loading partner name o ≡ some d
+    go : (o : Option Top) → loading partner name o ≡ Some d
         → (run t d).outcome.answer ∈ answers_of (load partner name key)
-    go none e = absurd (none_some _ e)
-    go (some top) e = made _ t (some_inj e) (run_gives t _ _ refl)
+    go None e = absurd (none_some _ e)
+    go (Some top) e = made _ t (some_inj e) (run_gives t _ _ refl)
 step_gives (remove partner) room t d e = made _ t (some_inj e) (run_gives t _ _ refl)
 
 answers : (image buffer : Text) (c : Call) (l : Left) → Way image buffer c l → l.answer ∈ answers_of c
@@ -68,7 +68,7 @@ answers image buffer c l (makes t d is e) =
 
 -- ---- refusals
 
-module _ (image buffer : Text) (t : Table) (is : decode image ≡ some t) (n : ℕ) (not_done : n ≢ 0) where
+module _ (image buffer : Text) (t : Table) (is : decode image ≡ Some t) (n : ℕ) (not_done : n ≢ 0) where
   encoded : encode t ≡ image
   encoded = ((stored.claims).read_then_write image t is).1
 
@@ -119,7 +119,7 @@ refusals image buffer c l (makes t d is e) p q =
 -- ---- errors
 
 -- a text that is no message is no error
-unread : (t : Table) (room : ℕ) (text : Text) → read text ≡ none → (run t (steps.receive room text)).outcome.answer ≢ 4
+unread : (t : Table) (room : ℕ) (text : Text) → read text ≡ None → (run t (steps.receive room text)).outcome.answer ≢ 4
 unfolding run perform receiving
 unread t room text q =
     by_case (λ (a : After). a.outcome.answer ≢ 4) _ _ _
@@ -127,7 +127,7 @@ unread t room text q =
     (λ _. subst (λ (o : Option Reading). (receiving t text o).outcome.answer ≢ 4) (sym q) (eqb-false 1 4 refl)))
     (λ _. eqb-false 13 4 refl)
 
-module _ (image text buffer : Text) (t : Table) (is : decode image ≡ some t)
+module _ (image text buffer : Text) (t : Table) (is : decode image ≡ Some t)
     (four : (run t (steps.receive (length buffer) text)).outcome.answer ≡ 4) where
   abbrev after : After
   after = run t (steps.receive (length buffer) text)
@@ -146,7 +146,7 @@ module _ (image text buffer : Text) (t : Table) (is : decode image ≡ some t)
       written_reply after.outcome (encode after.table) buffer
       (omega (arith, reply_short t (steps.receive (length buffer) text)))
 
-  complains : (r : Reading) → read text ≡ some r → said.Complains (bare t.own) r.org after.outcome
+  complains : (r : Reading) → read text ≡ Some r → said.Complains (bare t.own) r.org after.outcome
       → Complains image text result
   unfolding left
   complains r q k = record {
@@ -155,7 +155,7 @@ module _ (image text buffer : Text) (t : Table) (is : decode image ≡ some t)
     reading = q;
     message = k.message;
     error = ap read written_so ∙ k.written
-        ∙ ap (λ (us : Text). some (record { rcv = r.org; org = bare us; body = esm k.message }))
+        ∙ ap (λ (us : Text). Some (record { rcv = r.org; org = bare us; body = esm k.message }))
         (sym (own_is image t is));
     some_letter = λ z. k.some_letter (sym k.same_letters ∙ z);
     no_edc = k.no_edc;
@@ -171,8 +171,8 @@ module _ (image text buffer : Text) (t : Table) (is : decode image ≡ some t)
       go : (o : Option Reading) → read text ≡ o
           → said.Complains (bare t.own) (said.sender o) (run t (steps.receive (length buffer) text)).outcome
           → Complains image text (stepped image buffer (receive text) (run t (steps.receive (length buffer) text)))
-      go none q k = absurd (unread t (length buffer) text q four)
-      go (some r) q k = complains r q k
+      go None q k = absurd (unread t (length buffer) text q four)
+      go (Some r) q k = complains r q k
 
 errors : (image text buffer : Text) (l : Left) → Way image buffer (receive text) l → l.answer ≡ 4
     → Complains image text l

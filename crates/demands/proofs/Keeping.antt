@@ -1,8 +1,8 @@
 -- What is kept is bytes and a legal image; keys in bytes are numbers of 64 bits; replies are short.
+use Rattle.std.specs.Prelude.{Option, None, Some}
 use mathlib.Core.Path.{◌≡◌, refl, sym, ap, ◌∙◌, subst}
 use mathlib.Core.Bool.{Bool, true, false, cond}
 use mathlib.Core.List.{List, [], ◌∷◌}
-use mathlib.Core.Option.{Option, none, some}
 use Prim.Native.Nat.{ℕ, ◌≤◌}
 use native.Mathlib.Omega.{arith}
 use lib.Dec.{eqb, ltb}
@@ -52,7 +52,7 @@ request_sized s o = go (eqb (length s) request_size)
         record { first = f.1.0.0; second = f.1.1.0.0; iv = f.1.1.1.1.0 }
     go false = record { first = omega arith; second = omega arith; iv = omega arith }
 
-pub step_fits : (c : Call) (room : ℕ) (d : steps.Call) → OfBytes c → step_of room c ≡ some d → Of64Bits d
+pub step_fits : (c : Call) (room : ℕ) (d : steps.Call) → OfBytes c → step_of room c ≡ Some d → Of64Bits d
 step_fits (receive text) room d o e = subst Of64Bits (some_inj e) tt
 step_fits (build_ksm partner request) room d o e = subst Of64Bits (some_inj e) (request_sized request o)
 step_fits (build_rsi partner service) room d o e = subst Of64Bits (some_inj e) tt
@@ -60,9 +60,9 @@ step_fits (ask partner) room d o e = subst Of64Bits (some_inj e) tt
 step_fits (give_up partner) room d o e = subst Of64Bits (some_inj e) tt
 step_fits (load partner name key) room d o e = go (top_in key) refl e
   where
-    go : (top : Option Top) → top_in key ≡ top → loading partner name top ≡ some d → Of64Bits d
-    go none q e = absurd (none_some _ e)
-    go (some top) q e = subst Of64Bits (some_inj e) (top_fits key top o q)
+    go : (top : Option Top) → top_in key ≡ top → loading partner name top ≡ Some d → Of64Bits d
+    go None q e = absurd (none_some _ e)
+    go (Some top) q e = subst Of64Bits (some_inj e) (top_fits key top o q)
 step_fits (remove partner) room d o e = subst Of64Bits (some_inj e) tt
 
 -- ---- an image is bytes
@@ -91,7 +91,7 @@ encode_octets t l h =
     all_append (λ b. ltb b 256) t.own (slots_bytes t.slots) ∙ rw (own_octets t l, slots_octets t.slots h)
 
 -- the table after a call: its image reads as that table and is bytes
-module _ (image : Text) (t : Table) (d : steps.Call) (octets : Bytes image) (is : decode image ≡ some t)
+module _ (image : Text) (t : Table) (d : steps.Call) (octets : Bytes image) (is : decode image ≡ Some t)
     (fits : Of64Bits d) where
   lawful_before : legal t ≡ true
   lawful_before = ((stored.claims).read_then_write image t is).0
@@ -102,15 +102,15 @@ module _ (image : Text) (t : Table) (d : steps.Call) (octets : Bytes image) (is 
   held_after : AllHeld (run t d).table.slots
   held_after = run_holds t lawful_before ((stored.claims).read_is_held image t octets is) d fits
 
-  pub after_read : decode (encode (run t d).table) ≡ some (run t d).table
+  pub after_read : decode (encode (run t d).table) ≡ Some (run t d).table
   after_read = (stored.claims).write_then_read (run t d).table lawful_after held_after
 
   pub after_octets : Bytes (encode (run t d).table)
   after_octets = encode_octets (run t d).table lawful_after held_after
 
 -- an entry of an image fits its types
-pub entry_fits : (image : Text) (t : Table) (id : Text) (e : Entry) → Bytes image → decode image ≡ some t
-    → entry_of id t ≡ some e → Held e
+pub entry_fits : (image : Text) (t : Table) (id : Text) (e : Entry) → Bytes image → decode image ≡ Some t
+    → entry_of id t ≡ Some e → Held e
 entry_fits image t id e o is h =
     find_held (filled id) t.slots e ((stored.claims).read_is_held image t o is) (entry_held t id e h).found
 
@@ -120,8 +120,8 @@ message_short : (us them : Text) (b : Body) (w : Text) → Carries us them b w �
 message_short us them b w h = ((text.claims).message_text w _ h).at_most
 
 answer_short : (us : Text) (o : Option Reading) (w : Text) → AnswersText us o w → length w ≤ 512
-answer_short us none w h = absurd h
-answer_short us (some r) w h = go r.body h
+answer_short us None w h = absurd h
+answer_short us (Some r) w h = go r.body h
   where
     go : (b : Body) → Answers us r.org b w → length w ≤ 512
     go (rsi m) h = omega (arith, ap length h)
@@ -133,7 +133,7 @@ answer_short us (some r) w h = go r.body h
 writes_short : (us : Text) (d : steps.Call) (w : Text) → Writes us d w → length w ≤ 512
 writes_short us (steps.receive room s) w h = answer_short us (read s) w h
 writes_short us (steps.about id (steps.build_ksm room q)) w h = message_short us id (ksm h.0) w h.1
-writes_short us (steps.about id (steps.build_rsi room s)) w h = message_short us id (rsi (record { svr = h.0; edc = none })) w h.2
+writes_short us (steps.about id (steps.build_rsi room s)) w h = message_short us id (rsi (record { svr = h.0; edc = None })) w h.2
 writes_short us (steps.about id steps.give_up) w h = omega (arith, ap length h)
 writes_short us (steps.about id steps.remove) w h = omega (arith, ap length h)
 writes_short us (steps.about id steps.ask) w h = omega (arith, ap length h)

@@ -1,9 +1,9 @@
 -- Once both cards are loaded, a good request is confirmed in three calls.
+use Rattle.std.specs.Prelude.{Some}
 use mathlib.Core.Path.{◌≡◌, refl, sym, ap, ◌∙◌, subst}
 use mathlib.Core.List.Memᴰ
 use mathlib.Core.List.{List, [], ◌∷◌, ◌++◌}
 use mathlib.Core.Logic.{◌⊎◌, inl, inr}
-use mathlib.Core.Option.{some}
 use Prim.Native.Nat.{◌≤◌}
 use native.Mathlib.Omega.{arith}
 use lib.ListN.{length}
@@ -26,7 +26,7 @@ use Rattle.demands.specs.Hosts.{Hosts, Allowed, at_a, at_b, Reach, begin, step_a
 use Rattle.demands.proofs.Second.{stored_of, exchange}
 
 -- a message that is sent is in the list, and nothing else is
-in_texts : (w : Text) (r : Reading) → read w ≡ some r → w ∈ texts w
+in_texts : (w : Text) (r : Reading) → read w ≡ Some r → w ∈ texts w
 unfolding texts
 in_texts [] r h = absurd (omega (arith, ((csm.claims).message_text [] r h).some_byte))
 in_texts (x ∷ w) r h = Memᴰ.head refl

@@ -1,7 +1,7 @@
 -- A run of two hosts with their images is a run of the two cards of crate `line`: keys agree, and counts rise.
+use Rattle.std.specs.Prelude.{Some}
 use mathlib.Core.Path.{◌≡◌, sym, ap, ◌∙◌, subst}
 use mathlib.Core.List.{List, ◌++◌}
-use mathlib.Core.Option.{some}
 use Prim.Native.Nat.{ℕ, ◌≤◌}
 use lib.ListN.{length}
 use Rattle.octets.specs.Text.{Text}
@@ -32,8 +32,8 @@ module _ (a b name : Text) (top : Top) where
   record Cards (s₀ : State) (h : Hosts) : Type 0 where
     a_table : Table
     b_table : Table
-    a_is : decode h.a ≡ some a_table
-    b_is : decode h.b ≡ some b_table
+    a_is : decode h.a ≡ Some a_table
+    b_is : decode h.b ≡ Some b_table
     a_bytes : Bytes h.a
     b_bytes : Bytes h.b
     reached : line.Reach a b name top s₀ (state h a_table b_table)
@@ -41,7 +41,7 @@ module _ (a b name : Text) (top : Top) where
   -- a call that the card of `line` makes, and one that leaves everything as it was
   module _ (s₀ : State) (h : Hosts) (buffer : Text) (c : Call) (k : Cards s₀ h) where
     a_makes : (d : steps.Call) → line.Allowed name top b h.from_b d (run k.a_table d).outcome.answer
-        → decode (kept c (leaves h.a buffer c)) ≡ some (run k.a_table d).table
+        → decode (kept c (leaves h.a buffer c)) ≡ Some (run k.a_table d).table
         → Bytes (kept c (leaves h.a buffer c))
         → sent c (leaves h.a buffer c) ≡ texts (run k.a_table d).outcome.reply → Cards s₀ (at_a h buffer c)
     a_makes d may is octets said = record {
@@ -72,7 +72,7 @@ module _ (a b name : Text) (top : Top) where
         }) k
 
     b_makes : (d : steps.Call) → line.Allowed name top a h.from_a d (run k.b_table d).outcome.answer
-        → decode (kept c (leaves h.b buffer c)) ≡ some (run k.b_table d).table
+        → decode (kept c (leaves h.b buffer c)) ≡ Some (run k.b_table d).table
         → Bytes (kept c (leaves h.b buffer c))
         → sent c (leaves h.b buffer c) ≡ texts (run k.b_table d).outcome.reply
         → counted a c (leaves h.b buffer c).answer ≡ line.counted a d (run k.b_table d).outcome.answer
@@ -142,7 +142,7 @@ module _ (a b name : Text) (top : Top) where
   }
 
   pub agreement : {h₀ h : Hosts} → Afresh a b name top h₀ → Reach a b name top h₀ h → Distinct a b name top h
-      → (for_b : Entry) → entry_stored h.a b ≡ some for_b → for_b.sending.phase ≡ confirmed → Agreed a b name top h for_b.sending
+      → (for_b : Entry) → entry_stored h.a b ≡ Some for_b → for_b.sending.phase ≡ confirmed → Agreed a b name top h for_b.sending
   agreement {h₀} {h} f r distinct for_b there phase =
       let k = cards f r in
       let g = (claims a b name top).agreement (fresh_state h₀ f) k.reached distinct for_b

@@ -1,7 +1,7 @@
 -- Demand 2.
+use Rattle.std.specs.Prelude.{Option, None, Some}
 use mathlib.Core.Path.{◌≡◌, refl, sym, ap, ◌∙◌, subst}
 use mathlib.Core.Bool.{Bool, true, false}
-use mathlib.Core.Option.{Option, none, some}
 use Prim.Native.Nat.{ℕ, ◌≤◌}
 use lib.Dec.{eqb, ltb}
 use lib.ListN.{length, drop}
@@ -48,39 +48,39 @@ use Rattle.demands.proofs.Stepping.{as_stepped, kept_bytes}
 
 -- ---- the steps
 
-module _ (image buffer : Text) (t : Table) (octets : Bytes image) (is : decode image ≡ some t) where
+module _ (image buffer : Text) (t : Table) (octets : Bytes image) (is : decode image ≡ Some t) where
   pub as_the_steps : (c : Call) (d : steps.Call) → OfBytes c → room_for c ≤ length buffer
-      → step_of (length buffer) c ≡ some d → AsTheSteps image buffer c (run t d) (leaves image buffer c)
+      → step_of (length buffer) c ≡ Some d → AsTheSteps image buffer c (run t d) (leaves image buffer c)
   as_the_steps c d o r e =
       subst (AsTheSteps image buffer c (run t d)) (sym (by_steps image buffer t is c d r e))
       (as_stepped image buffer t octets is c d o e)
 
   pub bytes_kept : (c : Call) (d : steps.Call) → OfBytes c → room_for c ≤ length buffer
-      → step_of (length buffer) c ≡ some d → Bytes (kept c (leaves image buffer c))
+      → step_of (length buffer) c ≡ Some d → Bytes (kept c (leaves image buffer c))
   bytes_kept c d o r e =
       subst (λ l. Bytes (kept c l)) (sym (by_steps image buffer t is c d r e))
       (kept_bytes image buffer t octets is c d o e)
 
 -- ---- the entry that an image has
 
-pub stored_of : (image partner : Text) (t : Table) → decode image ≡ some t
+pub stored_of : (image partner : Text) (t : Table) → decode image ≡ Some t
     → entry_stored image partner ≡ entry_of partner t
 unfolding entry_stored
 stored_of image partner t is = ap (λ (o : Option Table). in_table o partner) is
 
-pub stored_in : (image partner : Text) (e : Entry) → entry_stored image partner ≡ some e
-    → (t : Table) × (decode image ≡ some t) × (entry_of partner t ≡ some e)
+pub stored_in : (image partner : Text) (e : Entry) → entry_stored image partner ≡ Some e
+    → (t : Table) × (decode image ≡ Some t) × (entry_of partner t ≡ Some e)
 unfolding entry_stored
 stored_in image partner e h = go (decode image) refl h
   where
-    go : (o : Option Table) → decode image ≡ o → in_table o partner ≡ some e
-        → (t : Table) × (decode image ≡ some t) × (entry_of partner t ≡ some e)
-    go none p h = absurd (none_some _ h)
-    go (some t) p h = (t, p, h)
+    go : (o : Option Table) → decode image ≡ o → in_table o partner ≡ Some e
+        → (t : Table) × (decode image ≡ Some t) × (entry_of partner t ≡ Some e)
+    go None p h = absurd (none_some _ h)
+    go (Some t) p h = (t, p, h)
 
 module _ (image buffer partner : Text) (octets : Bytes image) where
   -- the record that is written reads as the entry
-  shown : (t : Table) (e : Entry) → decode image ≡ some t → entry_of partner t ≡ some e → 256 ≤ length buffer
+  shown : (t : Table) (e : Entry) → decode image ≡ Some t → entry_of partner t ≡ Some e → 256 ≤ length buffer
       → ((leaves image buffer (ask partner)).answer ≡ 0) × (entry_told image buffer partner ≡ e)
   shown t e is there r =
       let a = as_the_steps image buffer t octets is (ask partner) (steps.about partner steps.ask) tt r refl in
@@ -90,43 +90,43 @@ module _ (image buffer partner : Text) (octets : Bytes image) where
             ∙ claims.written_then_read e (entry_fits image t partner e octets is there),
       )
 
-  pub entry_is_told : (e : Entry) → 256 ≤ length buffer → entry_stored image partner ≡ some e
+  pub entry_is_told : (e : Entry) → 256 ≤ length buffer → entry_stored image partner ≡ Some e
       → ((leaves image buffer (ask partner)).answer ≡ 0) × (entry_told image buffer partner ≡ e)
   entry_is_told e r h = let (t, is, there) = stored_in image partner e h in shown t e is there r
 
   -- 0 is answered in room, and where the image has an entry
   pub told_is_stored : (leaves image buffer (ask partner)).answer ≡ 0
-      → entry_stored image partner ≡ some (entry_told image buffer partner)
+      → entry_stored image partner ≡ Some (entry_told image buffer partner)
   told_is_stored z = by_image (decode image) refl
     where
       refuses : (n : ℕ) → eqb n 0 ≡ false → leaves image buffer (ask partner) ≡ refused n image buffer → ⊥
       refuses n p q = eqb-false n 0 p (ap (λ (l : Left). l.answer) (sym q) ∙ z)
 
-      by_entry : (t : Table) → decode image ≡ some t → 256 ≤ length buffer → (o : Option Entry) → entry_of partner t ≡ o
-          → entry_stored image partner ≡ some (entry_told image buffer partner)
-      by_entry t is r none h =
+      by_entry : (t : Table) → decode image ≡ Some t → 256 ≤ length buffer → (o : Option Entry) → entry_of partner t ≡ o
+          → entry_stored image partner ≡ Some (entry_told image buffer partner)
+      by_entry t is r None h =
           let a = as_the_steps image buffer t octets is (ask partner) (steps.about partner steps.ask) tt r refl in
           let s = refusals.nobody_to_show t partner ((stored.claims).read_then_write image t is).0 h in
           absurd (eqb-false 3 0 refl (sym (a.answer ∙ ap (λ (x : After). x.outcome.answer) s) ∙ z))
-      by_entry t is r (some e) h =
-          stored_of image partner t is ∙ h ∙ ap {B = Option Entry} some (sym (shown t e is h r).1)
+      by_entry t is r (Some e) h =
+          stored_of image partner t is ∙ h ∙ ap {B = Option Entry} Some (sym (shown t e is h r).1)
 
-      by_room : (t : Table) → decode image ≡ some t → (b : Bool) → ltb (length buffer) 256 ≡ b
-          → entry_stored image partner ≡ some (entry_told image buffer partner)
+      by_room : (t : Table) → decode image ≡ Some t → (b : Bool) → ltb (length buffer) 256 ≡ b
+          → entry_stored image partner ≡ Some (entry_told image buffer partner)
       by_room t is true p =
           absurd (refuses 6 refl (no_room image buffer t is (ask partner) (ltb-true (length buffer) 256 p)))
       by_room t is false p = by_entry t is (ltb-false (length buffer) 256 p) (entry_of partner t) refl
 
       by_image : (o : Option Table) → decode image ≡ o
-          → entry_stored image partner ≡ some (entry_told image buffer partner)
-      by_image none is = absurd (refuses 13 refl (no_image image buffer is (ask partner)))
-      by_image (some t) is = by_room t is (ltb (length buffer) 256) refl
+          → entry_stored image partner ≡ Some (entry_told image buffer partner)
+      by_image None is = absurd (refuses 13 refl (no_image image buffer is (ask partner)))
+      by_image (Some t) is = by_room t is (ltb (length buffer) 256) refl
 
 -- ---- start
 
 else_started : (own out : Text) → largest ≤ length out → is_name own ≡ true
     → (t : Table) × ((start_leaves own out).answer ≡ 0)
-    × (decode (put_out (start_leaves own out)) ≡ some t) × Starts own t
+    × (decode (put_out (start_leaves own out)) ≡ Some t) × Starts own t
 unfolding left
 else_started own out r n =
     let (t, p, k) = refusals.else_started own n in
@@ -135,7 +135,7 @@ else_started own out r n =
       t,
       ap (λ (l : Left). l.answer) d,
       ap (λ (l : Left). decode (put_out l)) d ∙ ap decode (written_started own n out) ∙ started_read own n
-          ∙ ap {B = Option Table} some (sym q),
+          ∙ ap {B = Option Table} Some (sym q),
       k,
     )
 
@@ -155,7 +155,7 @@ unfolding report report_bytes
 told_so o = refl
 
 module _ (x : Exchange) (t u : Table) (e f : Entry) (a_bytes : Bytes x.a) (b_bytes : Bytes x.b)
-    (request_bytes : Bytes x.request) (a_is : decode x.a ≡ some t) (b_is : decode x.b ≡ some u)
+    (request_bytes : Bytes x.request) (a_is : decode x.a ≡ Some t) (b_is : decode x.b ≡ Some u)
     (named : x.partner ≡ bare u.own) (partners : step.Partners t u e f)
     (good : GoodRequest e (request_in x.request)) (first : 256 ≤ length x.first)
     (second : 256 ≤ length x.second) (third : 256 ≤ length x.third) where
@@ -178,7 +178,7 @@ module _ (x : Exchange) (t u : Table) (e f : Entry) (a_bytes : Bytes x.a) (b_byt
       (as_the_steps x.a x.first t a_bytes a_is building (steps.about x.partner (steps.build_ksm room q)) request_bytes
       first refl)
 
-  image_built : decode (built x).image ≡ some (step.after_built t u q room).table
+  image_built : decode (built x).image ≡ Some (step.after_built t u q room).table
   unfolding kept
   image_built = first_steps.table
 
@@ -200,7 +200,7 @@ module _ (x : Exchange) (t u : Table) (e f : Entry) (a_bytes : Bytes x.a) (b_byt
       (as_the_steps x.b x.second u b_bytes b_is (receive (put_out (built x)))
       (steps.receive (length x.second) (put_out (built x))) tt second refl)
 
-  image_taken : decode (taken x).image ≡ some (step.after_taken t u q room).table
+  image_taken : decode (taken x).image ≡ Some (step.after_taken t u q room).table
   unfolding kept
   image_taken = second_steps.table
 
@@ -219,7 +219,7 @@ module _ (x : Exchange) (t u : Table) (e f : Entry) (a_bytes : Bytes x.a) (b_byt
       (as_the_steps (built x).image x.third (step.after_built t u q room).table bytes_built image_built
       (receive (put_out (taken x))) (steps.receive (length x.third) (put_out (taken x))) tt third refl)
 
-  image_confirmed : decode (confirming x).image ≡ some (step.after_confirmed t u q room).table
+  image_confirmed : decode (confirming x).image ≡ Some (step.after_confirmed t u q room).table
   unfolding kept
   image_confirmed = third_steps.table
 

@@ -1,8 +1,8 @@
 -- The image that start writes.
+use Rattle.std.specs.Prelude.{Some}
 use mathlib.Core.Path.{◌≡◌}
 use mathlib.Core.Bool.{true}
 use mathlib.Core.List.{[]}
-use mathlib.Core.Option.{some}
 use Prim.Native.Nat.{ℕ, zero, suc, ◌<◌}
 use native.Mathlib.Omega.{arith}
 use lib.ListN.{length}
@@ -27,11 +27,11 @@ empties_held zero = tt
 empties_held (suc n) = (empty_held, empties_held n)
 
 module _ (own : Text) (named : is_name own ≡ true) where
-  pub start_is : start own ≡ some (started (name_of own))
+  pub start_is : start own ≡ Some (started (name_of own))
   unfolding start
   start_is = if_true (is_name own) _ _ named
 
-  pub started_read : decode (encode (started (name_of own))) ≡ some (started (name_of own))
+  pub started_read : decode (encode (started (name_of own))) ≡ Some (started (name_of own))
   started_read = claims.start_is_legal (name_of own) (filled_filled own named)
 
   pub started_bytes : Bytes (encode (started (name_of own)))

@@ -1,7 +1,7 @@
 -- A call that makes the steps: its answer, what it writes, and the image that is kept.
+use Rattle.std.specs.Prelude.{Option, None, Some}
 use mathlib.Core.Path.{◌≡◌, refl, sym, ap, ◌∙◌, subst}
 use mathlib.Core.Bool.{true}
-use mathlib.Core.Option.{Option, none, some}
 use Prim.Native.Nat.{ℕ, ◌<◌}
 use native.Mathlib.Omega.{arith}
 use lib.Dec.{eqb}
@@ -71,8 +71,8 @@ unfolding at_partner
 partner_leaves t id turn same = go (entry_of id t) refl
   where
     go : (o : Option Entry) → entry_of id t ≡ o → (after_turn t id turn o).table ≡ t
-    go none q = refl
-    go (some e) q =
+    go None q = refl
+    go (Some e) q =
         ap (λ (x : Entry). holding t (put (filled id) x t.slots)) (same e)
         ∙ ap (holding t) (put_found (filled id) t.slots e (entry_held t id e q).found)
 
@@ -81,11 +81,11 @@ unfolding building.build_rsi
 service_same own e contents = go (value svr contents)
   where
     go : (o : Option ℕ) → (elim o as (λ x. Turn) [
-      | none ↦ refused e 12
-      | some s ↦ done e (print (to_partner own e (rsi (record { svr = s; edc = none })))) nothing
+      | None ↦ refused e 12
+      | Some s ↦ done e (print (to_partner own e (rsi (record { svr = s; edc = None })))) nothing
     ]).entry ≡ e
-    go none = refl
-    go (some s) = refl
+    go None = refl
+    go (Some s) = refl
 
 rsi_leaves : (t : Table) (room : ℕ) (id contents : Text) → (run t (steps.about id (steps.build_rsi room contents))).table ≡ t
 unfolding run perform
@@ -103,7 +103,7 @@ ask_leaves t id =
 
 -- ---- what is kept
 
-module _ (image buffer : Text) (t : Table) (octets : Bytes image) (is : decode image ≡ some t) where
+module _ (image buffer : Text) (t : Table) (octets : Bytes image) (is : decode image ≡ Some t) where
   encoded : encode t ≡ image
   encoded = ((stored.claims).read_then_write image t is).1
 
@@ -143,9 +143,9 @@ module _ (image buffer : Text) (t : Table) (octets : Bytes image) (is : decode i
   shown_short id = go (entry_of id t) refl
     where
       go : (o : Option Entry) → entry_of id t ≡ o → length (showing id (run t (steps.about id steps.ask))).reply < 65_536
-      go none q =
+      go None q =
           omega (arith, ap (λ (o : Outcome). length o.reply) (shown_nobody t id lawful q))
-      go (some e) q =
+      go (Some e) q =
           omega (
             arith,
             ap (λ (o : Outcome). length o.reply) (shown_entry t id e lawful q),
@@ -153,7 +153,7 @@ module _ (image buffer : Text) (t : Table) (octets : Bytes image) (is : decode i
           )
 
   -- what each call writes is short
-  pub short : (c : Call) (d : steps.Call) → OfBytes c → step_of (length buffer) c ≡ some d
+  pub short : (c : Call) (d : steps.Call) → OfBytes c → step_of (length buffer) c ≡ Some d
       → length (in_bytes c (run t d)).reply < 65_536
   short (receive text) d o e = omega (arith, reply_short t d)
   short (build_ksm partner request) d o e = omega (arith, reply_short t d)
@@ -166,7 +166,7 @@ module _ (image buffer : Text) (t : Table) (octets : Bytes image) (is : decode i
   short (remove partner) d o e = delivered_short d (step_fits (remove partner) (length buffer) d o e)
 
   -- the image that is kept is that of the table after the steps
-  pub kept_is : (c : Call) (d : steps.Call) → OfBytes c → step_of (length buffer) c ≡ some d
+  pub kept_is : (c : Call) (d : steps.Call) → OfBytes c → step_of (length buffer) c ≡ Some d
       → kept c (stepped image buffer c (run t d)) ≡ encode (run t d).table
   unfolding kept left
   kept_is (receive text) d o e = refl
@@ -181,7 +181,7 @@ module _ (image buffer : Text) (t : Table) (octets : Bytes image) (is : decode i
   kept_is (remove partner) d o e = new_is d (step_fits (remove partner) (length buffer) d o e)
 
   -- the image lent keeps its length
-  image_long : (c : Call) (d : steps.Call) → OfBytes c → step_of (length buffer) c ≡ some d
+  image_long : (c : Call) (d : steps.Call) → OfBytes c → step_of (length buffer) c ≡ Some d
       → length (image_by c image (run t d)) ≡ length image
   image_long (receive text) d o e =
       subst (λ (x : steps.Call). length (encode (run t x).table) ≡ length image) (some_inj e)
@@ -200,7 +200,7 @@ module _ (image buffer : Text) (t : Table) (octets : Bytes image) (is : decode i
 
   -- ---- together
 
-  pub as_stepped : (c : Call) (d : steps.Call) → OfBytes c → step_of (length buffer) c ≡ some d
+  pub as_stepped : (c : Call) (d : steps.Call) → OfBytes c → step_of (length buffer) c ≡ Some d
       → AsTheSteps image buffer c (run t d) (stepped image buffer c (run t d))
   unfolding left
   as_stepped c d o e = record {
@@ -212,7 +212,7 @@ module _ (image buffer : Text) (t : Table) (octets : Bytes image) (is : decode i
     length_stays = image_long c d o e;
   }
 
-  pub kept_bytes : (c : Call) (d : steps.Call) → OfBytes c → step_of (length buffer) c ≡ some d
+  pub kept_bytes : (c : Call) (d : steps.Call) → OfBytes c → step_of (length buffer) c ≡ Some d
       → Bytes (kept c (stepped image buffer c (run t d)))
   kept_bytes c d o e =
       ap all_octets (kept_is c d o e) ∙ after_octets image t d octets is (step_fits c (length buffer) d o e)

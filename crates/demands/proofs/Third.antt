@@ -1,6 +1,6 @@
 -- Demand 3.
+use Rattle.std.specs.Prelude.{Some}
 use mathlib.Core.Path.{◌≡◌, sym, ap, ◌∙◌, subst}
-use mathlib.Core.Option.{some}
 use Rattle.octets.specs.Text.{Text}
 use Rattle.octets.specs.Part.{bare}
 use Rattle.keying.specs.declared.Top.{Top}
@@ -37,7 +37,7 @@ module _ (name : Text) (top : Top) where
         fresh = (claims own other name top).started own other (started (name_of own)) (start_is own n);
       })
 
-  loads : (image buffer other key : Text) (l : Left) → Bytes image → Bytes key → top_in key ≡ some top
+  loads : (image buffer other key : Text) (l : Left) → Bytes image → Bytes key → top_in key ≡ Some top
       → Way image buffer (load other name key) l → l.answer ≡ 0
       → Fresh name top (our_identity image) other (kept (load other name key) l)
   unfolding left

@@ -1,8 +1,8 @@
 -- The ways that a call over bytes can go: all that is used of the definitions behind the contracts of `khl_*`.
+use Rattle.std.specs.Prelude.{Option, None, Some}
 use mathlib.Core.Path.{◌≡◌, refl, sym, ap, ◌∙◌, subst}
 use mathlib.Core.Bool.{Bool, true, false}
 use mathlib.Core.List.{[], ◌∷◌}
-use mathlib.Core.Option.{Option, none, some}
 use Prim.Native.Nat.{ℕ, ◌<◌, ◌≤◌}
 use native.Mathlib.Omega.{arith}
 use lib.Dec.{ltb}
@@ -51,12 +51,12 @@ stepped image buffer c a = left (in_bytes c a) (image_by c image a) buffer
 -- ---- ask
 
 -- 3 where there is nobody, else the record of the entry
-pub shown_nobody : (t : Table) (partner : Text) → legal t ≡ true → steps.entry_of partner t ≡ none
+pub shown_nobody : (t : Table) (partner : Text) → legal t ≡ true → steps.entry_of partner t ≡ None
     → showing partner (run t (steps.about partner steps.ask)) ≡ refusal 3
 unfolding showing in_case◌then◌else◌
 shown_nobody t partner lawful q = ap (showing partner) (refusals.nobody_to_show t partner lawful q)
 
-pub shown_entry : (t : Table) (partner : Text) (e : Entry) → legal t ≡ true → steps.entry_of partner t ≡ some e
+pub shown_entry : (t : Table) (partner : Text) (e : Entry) → legal t ≡ true → steps.entry_of partner t ≡ Some e
     → showing partner (run t (steps.about partner steps.ask)) ≡ success (entry_bytes e) nothing
 unfolding showing in_case◌then◌else◌
 shown_entry t partner e lawful q =
@@ -69,12 +69,12 @@ shown_so t partner lawful = go (steps.entry_of partner t) refl
   where
     go : (o : Option Entry) → steps.entry_of partner t ≡ o
         → body_of (steps.entry_of partner t) ≡ showing partner (run t (steps.about partner steps.ask))
-    go none q = ap body_of q ∙ sym (shown_nobody t partner lawful q)
-    go (some e) q = ap body_of q ∙ sym (shown_entry t partner e lawful q)
+    go None q = ap body_of q ∙ sym (shown_nobody t partner lawful q)
+    go (Some e) q = ap body_of q ∙ sym (shown_entry t partner e lawful q)
 
 -- ---- 13
 
-module _ (image buffer : Text) (h : decode image ≡ none) where
+module _ (image buffer : Text) (h : decode image ≡ None) where
   over_none : (c : steps.Call) → over_image image buffer c ≡ refused 13 image buffer
   unfolding outcome_over image_over
   over_none c = rw (outcome_over, image_over, h) (left_refusal 13 image buffer)
@@ -91,7 +91,7 @@ module _ (image buffer : Text) (h : decode image ≡ none) where
 
 -- ---- an image
 
-module _ (image buffer : Text) (t : Table) (h : decode image ≡ some t) where
+module _ (image buffer : Text) (t : Table) (h : decode image ≡ Some t) where
   lawful : legal t ≡ true
   lawful = ((stored.claims).read_then_write image t h).0
 
@@ -143,7 +143,7 @@ module _ (image buffer : Text) (t : Table) (h : decode image ≡ some t) where
       rw (load_over, h)
       (ap (λ (o : Outcome). left o image buffer) (if_false _ _ _ (le-ltb (length buffer) largest r)))
 
-  module _ (partner name key : Text) (room : largest ≤ length buffer) (none_there : top_in key ≡ none) where
+  module _ (partner name key : Text) (room : largest ≤ length buffer) (none_there : top_in key ≡ None) where
     keyless : leaves image buffer (load partner name key)
         ≡ left (in_case bad_identity t partner then refusal 10 else refusal 12) image buffer
     unfolding load_with
@@ -198,7 +198,7 @@ module _ (image buffer : Text) (t : Table) (h : decode image ≡ some t) where
 
   -- ---- the steps
 
-  pub by_steps : (c : Call) (d : steps.Call) → room_for c ≤ length buffer → step_of (length buffer) c ≡ some d
+  pub by_steps : (c : Call) (d : steps.Call) → room_for c ≤ length buffer → step_of (length buffer) c ≡ Some d
       → leaves image buffer c ≡ stepped image buffer c (run t d)
   unfolding leaves outcome_over ask_over load_with remove_over
   by_steps (receive text) d r e =
@@ -216,10 +216,10 @@ module _ (image buffer : Text) (t : Table) (h : decode image ≡ some t) where
       over_some _ ∙ ap (λ (x : steps.Call). stepped image buffer (give_up partner) (run t x)) (some_inj e)
   by_steps (load partner name key) d r e = load_is partner name key r ∙ go (top_in key) e
     where
-      go : (o : Option Top) → loading partner name o ≡ some d
+      go : (o : Option Top) → loading partner name o ≡ Some d
           → left (load_with t partner name o) image buffer ≡ left (delivering (run t d)) image buffer
-      go none e = absurd (none_some _ e)
-      go (some top) e = ap (λ (x : steps.Call). left (delivering (run t x)) image buffer) (some_inj e)
+      go None e = absurd (none_some _ e)
+      go (Some top) e = ap (λ (x : steps.Call). left (delivering (run t x)) image buffer) (some_inj e)
   by_steps (remove partner) d r e =
       rw (remove_over, h)
       (ap (λ (o : Outcome). left o image buffer) (if_false _ _ _ (le-ltb (length buffer) largest r))
@@ -230,7 +230,7 @@ module _ (image buffer : Text) (t : Table) (h : decode image ≡ some t) where
 -- a refusal with one of the call's own numbers, or the steps on the table of the image
 pub data Way (image buffer : Text) (c : Call) : Left → Type 0 where
   refuses : (n : ℕ) → n ∈ answers_of c → (n ≡ 0 → ⊥) → (n ≡ 4 → ⊥) → Way image buffer c (refused n image buffer)
-  makes : (t : Table) (d : steps.Call) → decode image ≡ some t → step_of (length buffer) c ≡ some d
+  makes : (t : Table) (d : steps.Call) → decode image ≡ Some t → step_of (length buffer) c ≡ Some d
       → Way image buffer c (stepped image buffer c (run t d))
 
 thirteen : (c : Call) → 13 ∈ answers_of c
@@ -251,8 +251,8 @@ six (give_up partner) room h = absurd (omega arith)
 six (load partner name key) room h = is_in 6 _ refl
 six (remove partner) room h = is_in 6 _ refl
 
-module _ (image buffer : Text) (t : Table) (h : decode image ≡ some t) where
-  no_step : (c : Call) → room_for c ≤ length buffer → step_of (length buffer) c ≡ none
+module _ (image buffer : Text) (t : Table) (h : decode image ≡ Some t) where
+  no_step : (c : Call) → room_for c ≤ length buffer → step_of (length buffer) c ≡ None
       → Way image buffer c (leaves image buffer c)
   no_step (receive text) r e = absurd (none_some _ (sym e))
   no_step (build_ksm partner request) r e = absurd (none_some _ (sym e))
@@ -261,7 +261,7 @@ module _ (image buffer : Text) (t : Table) (h : decode image ≡ some t) where
   no_step (give_up partner) r e = absurd (none_some _ (sym e))
   no_step (load partner name key) r e = go (top_in key) refl e
     where
-      by : (b : Bool) → bad_identity t partner ≡ b → top_in key ≡ none
+      by : (b : Bool) → bad_identity t partner ≡ b → top_in key ≡ None
           → Way image buffer (load partner name key) (leaves image buffer (load partner name key))
       by true p q =
           subst (Way image buffer (load partner name key)) (sym (keyless_10 image buffer t h partner name key r q p))
@@ -270,10 +270,10 @@ module _ (image buffer : Text) (t : Table) (h : decode image ≡ some t) where
           subst (Way image buffer (load partner name key)) (sym (keyless_12 image buffer t h partner name key r q p))
           (refuses 12 (is_in 12 _ refl) (eqb-false 12 0 refl) (eqb-false 12 4 refl))
 
-      go : (o : Option Top) → top_in key ≡ o → loading partner name o ≡ none
+      go : (o : Option Top) → top_in key ≡ o → loading partner name o ≡ None
           → Way image buffer (load partner name key) (leaves image buffer (load partner name key))
-      go none q e = by (bad_identity t partner) refl q
-      go (some top) q e = absurd (none_some _ (sym e))
+      go None q e = by (bad_identity t partner) refl q
+      go (Some top) q e = absurd (none_some _ (sym e))
   no_step (remove partner) r e = absurd (none_some _ (sym e))
 
   with_image : (c : Call) → Way image buffer c (leaves image buffer c)
@@ -281,8 +281,8 @@ module _ (image buffer : Text) (t : Table) (h : decode image ≡ some t) where
     where
       step : room_for c ≤ length buffer → (o : Option steps.Call) → step_of (length buffer) c ≡ o
           → Way image buffer c (leaves image buffer c)
-      step r none e = no_step c r e
-      step r (some d) e =
+      step r None e = no_step c r e
+      step r (Some d) e =
           subst (Way image buffer c) (sym (by_steps image buffer t h c d r e)) (makes t d h e)
 
       go : (b : Bool) → ltb (length buffer) (room_for c) ≡ b → Way image buffer c (leaves image buffer c)
@@ -297,10 +297,10 @@ pub way : (image buffer : Text) (c : Call) → Way image buffer c (leaves image 
 way image buffer c = go (decode image) refl
   where
     go : (o : Option Table) → decode image ≡ o → Way image buffer c (leaves image buffer c)
-    go none h =
+    go None h =
         subst (Way image buffer c) (sym (no_image image buffer h c))
         (refuses 13 (thirteen c) (eqb-false 13 0 refl) (eqb-false 13 4 refl))
-    go (some t) h = with_image image buffer t h c
+    go (Some t) h = with_image image buffer t h c
 
 -- ---- start
 
@@ -311,16 +311,16 @@ module _ (own out : Text) where
       ap (λ (o : Outcome). left o [] out) (if_true _ _ _ (lt-ltb (length out) largest r)) ∙ left_refusal 6 [] out
 
   started_by : largest ≤ length out → (b : Bool) → is_name own ≡ b
-      → start_leaves own out ≡ left (elim (in_case b then some (started (name_of own)) else none) as (λ x. Outcome) [
-        | none ↦ refusal 10
-        | some t ↦ success (encode t) nothing
+      → start_leaves own out ≡ left (elim (in_case b then Some (started (name_of own)) else None) as (λ x. Outcome) [
+        | None ↦ refusal 10
+        | Some t ↦ success (encode t) nothing
       ]) [] out
   unfolding start_leaves start_over steps.start
   started_by r b p =
       ap (λ (o : Outcome). left o [] out) (if_false _ _ _ (le-ltb (length out) largest r)
-      ∙ ap {B = Outcome} (λ (b : Bool). elim (in_case b then some (started (name_of own)) else none) as (λ x. Outcome) [
-        | none ↦ refusal 10
-        | some t ↦ success (encode t) nothing
+      ∙ ap {B = Outcome} (λ (b : Bool). elim (in_case b then Some (started (name_of own)) else None) as (λ x. Outcome) [
+        | None ↦ refusal 10
+        | Some t ↦ success (encode t) nothing
       ]) p)
 
   pub start_no_name : largest ≤ length out → is_name own ≡ false → start_leaves own out ≡ refused 10 [] out

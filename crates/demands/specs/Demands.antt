@@ -1,7 +1,6 @@
 -- The three demands about the C face, each sentence with its theorem. Proved as `demands` in proofs/Demands.antt; that the
 -- code of the face does what is said of it here is the last page, firmware/specs/Firmware.antt.
-use Rattle.std.specs.Prelude.{◌≡◌, true, false, ◌≢◌, ◌↔◌, List, [], ◌∷◌, ℕ, ◌<◌, ◌≤◌, length, drop}
-use Rattle.std.proofs.Math.Option.{none, some}
+use Rattle.std.specs.Prelude.{◌≡◌, true, false, ◌≢◌, ◌↔◌, List, [], ◌∷◌, ℕ, ◌<◌, ◌≤◌, length, drop, None, Some}
 use Rattle.octets.specs.Text.{Text, is_name}
 use Rattle.octets.specs.Part.{bare}
 use Rattle.keying.specs.declared.Top.{Top}
@@ -71,21 +70,21 @@ pub record Demand2 : Type 0 where
   -- every reply a message to the partner, every other entry as it was, no count ever lower
   pub every_call : calls.Claims
   -- 13: no legal image
-  pub no_image_is_13 : (image buffer : Text) (c : Call) → decode image ≡ none
+  pub no_image_is_13 : (image buffer : Text) (c : Call) → decode image ≡ None
       → leaves image buffer c ≡ refused 13 image buffer
   -- then 6
-  pub no_room_is_6 : (image buffer : Text) (c : Call) (t : Table) → decode image ≡ some t
+  pub no_room_is_6 : (image buffer : Text) (c : Call) (t : Table) → decode image ≡ Some t
       → length buffer < room_for c → leaves image buffer c ≡ refused 6 image buffer
   -- a key to load that is not of 8 or 16 bytes is 12, with 10 before it
-  pub no_key_is_12 : (image buffer partner name key : Text) (t : Table) → decode image ≡ some t
-      → largest ≤ length buffer → top_in key ≡ none → GoodIdentity t partner
+  pub no_key_is_12 : (image buffer partner name key : Text) (t : Table) → decode image ≡ Some t
+      → largest ≤ length buffer → top_in key ≡ None → GoodIdentity t partner
       → leaves image buffer (load partner name key) ≡ refused 12 image buffer
-  pub no_key_after_10 : (image buffer partner name key : Text) (t : Table) → decode image ≡ some t
-      → largest ≤ length buffer → top_in key ≡ none → (GoodIdentity t partner → ⊥)
+  pub no_key_after_10 : (image buffer partner name key : Text) (t : Table) → decode image ≡ Some t
+      → largest ≤ length buffer → top_in key ≡ None → (GoodIdentity t partner → ⊥)
       → leaves image buffer (load partner name key) ≡ refused 10 image buffer
   -- else each call writes and changes the table exactly as the steps say
   pub as_the_steps : (image buffer : Text) (c : Call) (d : paper.Call) (t : Table) → Bytes image → OfBytes c
-      → decode image ≡ some t → room_for c ≤ length buffer → step_of (length buffer) c ≡ some d
+      → decode image ≡ Some t → room_for c ≤ length buffer → step_of (length buffer) c ≡ Some d
       → AsTheSteps image buffer c (run t d) (leaves image buffer c)
   -- start: 6, then 10, else the image of a table with our identity and 64 empty slots
   pub no_room_to_start : (own out : Text) → length out < largest → start_leaves own out ≡ refused 6 [] out
@@ -93,16 +92,16 @@ pub record Demand2 : Type 0 where
       → start_leaves own out ≡ refused 10 [] out
   pub else_started : (own out : Text) → largest ≤ length out → is_name own ≡ true
       → (t : Table) × ((start_leaves own out).answer ≡ 0)
-      × (decode (put_out (start_leaves own out)) ≡ some t) × refusing.Starts own t
+      × (decode (put_out (start_leaves own out)) ≡ Some t) × refusing.Starts own t
   -- ask tells the entry that the image has
   pub entry_is_told : (image buffer partner : Text) (e : Entry) → Bytes image → 256 ≤ length buffer
-      → entry_stored image partner ≡ some e
+      → entry_stored image partner ≡ Some e
       → ((leaves image buffer (ask partner)).answer ≡ 0) × (entry_told image buffer partner ≡ e)
   pub told_is_stored : (image buffer partner : Text) → Bytes image → (leaves image buffer (ask partner)).answer ≡ 0
-      → entry_stored image partner ≡ some (entry_told image buffer partner)
+      → entry_stored image partner ≡ Some (entry_told image buffer partner)
   -- what one end builds, plain or notarized, the other reads back, and its answer is taken
   pub exchange : (x : Exchange) (t u : Table) (e f : Entry) → Bytes x.a → Bytes x.b → Bytes x.request
-      → decode x.a ≡ some t → decode x.b ≡ some u → x.partner ≡ bare u.own
+      → decode x.a ≡ Some t → decode x.b ≡ Some u → x.partner ≡ bare u.own
       → step.Partners t u e f → GoodRequest e (request_in x.request)
       → 256 ≤ length x.first → 256 ≤ length x.second → 256 ≤ length x.third → Exchanged x e
 
@@ -112,7 +111,7 @@ pub record Demand2 : Type 0 where
 pub record Demand3 (a b name : Text) (top : Top) : Type 0 where
   -- whenever A's image says confirmed for B, B's image holds those very keys
   pub agreement : {h₀ h : Hosts} → Afresh a b name top h₀ → Reach a b name top h₀ h → Distinct a b name top h
-      → (for_b : Entry) → entry_stored h.a b ≡ some for_b → for_b.sending.phase ≡ confirmed → Agreed a b name top h for_b.sending
+      → (for_b : Entry) → entry_stored h.a b ≡ Some for_b → for_b.sending.phase ≡ confirmed → Agreed a b name top h for_b.sending
   -- and so by what the cards tell: asked for B, A tells confirmed; asked for A, B tells those keys under that count
   pub as_told : {h₀ h : Hosts} → Afresh a b name top h₀ → Reach a b name top h₀ h → Distinct a b name top h
       → (first second : Text) → 256 ≤ length second → (leaves h.a first (ask b)).answer ≡ 0
@@ -125,7 +124,7 @@ pub record Demand3 (a b name : Text) (top : Top) : Type 0 where
   -- afresh: just started, or just loaded for the other
   pub started : (own other out : Text) → (start_leaves own out).answer ≡ 0
       → Fresh name top own other (put_out (start_leaves own out))
-  pub just_loaded : (image buffer other key : Text) → Bytes image → Bytes key → top_in key ≡ some top
+  pub just_loaded : (image buffer other key : Text) → Bytes image → Bytes key → top_in key ≡ Some top
       → (leaves image buffer (load other name key)).answer ≡ 0
       → Fresh name top (our_identity image) other
       (kept (load other name key) (leaves image buffer (load other name key)))
@@ -135,7 +134,7 @@ pub record Demand3 (a b name : Text) (top : Top) : Type 0 where
       → Confirms a b name top h (request_in request)
   -- of a call no more is asked than `line` asks of the steps that it makes
   pub asked_alike : (other : Text) (wrote : List Text) (c : Call) (d : paper.Call) (room answer : ℕ) → OfBytes c
-      → step_of room c ≡ some d → Allowed name top other wrote c answer ↔ line.Allowed name top other wrote d answer
+      → step_of room c ≡ Some d → Allowed name top other wrote c answer ↔ line.Allowed name top other wrote d answer
   -- the same of the cards' tables; an old ESM after a resend is harmless
   pub cards : line.Claims a b name top
 

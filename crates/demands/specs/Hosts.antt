@@ -1,6 +1,5 @@
 -- Two hosts on a bad line, each keeping one image: the words of the third demand, and all that it rests on.
-use Rattle.std.specs.Prelude.{◌≡◌, ◌≢◌, List, [], ◌++◌, ℕ, ◌+◌, eqb}
-use Rattle.std.proofs.Math.Option.{some}
+use Rattle.std.specs.Prelude.{◌≡◌, ◌≢◌, List, [], ◌++◌, ℕ, ◌+◌, eqb, Some}
 use Rattle.octets.specs.Text.{Text}
 use Rattle.keying.specs.declared.Top.{Top}
 use Rattle.csm.specs.Message.{Reading, Ksm, ksm, read}
@@ -64,14 +63,14 @@ module _ (name : Text) (top : Top) where
   -- what is asked of a call that is answered so; `other` is the other card, `wrote` what that card has written
   unfoldable pub Allowed : Text → List Text → Call → ℕ → Type 0
   -- a message naming the other card as originator was written by it
-  Allowed other wrote (receive text) answer = (r : Reading) → read text ≡ some r → r.org ≡ other → text ∈ wrote
+  Allowed other wrote (receive text) answer = (r : Reading) → read text ≡ Some r → r.org ≡ other → text ∈ wrote
   Allowed other wrote (build_ksm partner request) answer = Unit {0}
   Allowed other wrote (build_rsi partner service) answer = Unit {0}
   Allowed other wrote (ask partner) answer = Unit {0}
   Allowed other wrote (give_up partner) answer = Unit {0}
   -- a load of the other card is refused, or has that key under that name
   Allowed other wrote (load partner key_name key) answer =
-      answer ≡ 0 → partner ≡ other → (key_name ≡ name) × (top_in key ≡ some top)
+      answer ≡ 0 → partner ≡ other → (key_name ≡ name) × (top_in key ≡ Some top)
   -- a remove does not find the other card
   Allowed other wrote (remove partner) answer = answer ≡ 0 → partner ≢ other
 
@@ -79,7 +78,7 @@ module _ (name : Text) (top : Top) where
   pub record Fresh (own other image : Text) : Type 0 where
     pub bytes : Bytes image
     pub table : Table
-    pub legal : decode image ≡ some table
+    pub legal : decode image ≡ Some table
     pub fresh : line.Fresh name top own other table
 
 -- A is under the identity a, B under b
@@ -111,18 +110,18 @@ module _ (a b name : Text) (top : Top) where
     pub text : Text
     pub message : Ksm
     pub sent_by_a : text ∈ h.from_a
-    pub reading : read text ≡ some (a_to_b a b name top (ksm message))
+    pub reading : read text ≡ Some (a_to_b a b name top (ksm message))
     pub carried : brought b (line.entry_for name top a) message ≡ ours.outgoing
     pub for_a : Entry
-    pub held : entry_stored h.b a ≡ some for_a
+    pub held : entry_stored h.b a ≡ Some for_a
     pub in_step : line.InStep ours for_a.receiving message
     pub counted_by_b : message.ctp ∈ h.accepted
 
   -- both cards have just been loaded for each other
   pub record Loaded (h : Hosts) : Type 0 where
     pub afresh : Afresh h
-    pub for_b : entry_stored h.a b ≡ some (line.entry_for name top b)
-    pub for_a : entry_stored h.b a ≡ some (line.entry_for name top a)
+    pub for_b : entry_stored h.a b ≡ Some (line.entry_for name top b)
+    pub for_a : entry_stored h.b a ≡ Some (line.entry_for name top a)
 
   -- a run that ends with A's keys to B, those of a request, confirmed
   pub record Confirms (h₀ : Hosts) (q : Request) : Type 0 where
@@ -130,6 +129,6 @@ module _ (a b name : Text) (top : Top) where
     pub run : Reach h₀ later
     pub distinct : Distinct later
     pub for_b : Entry
-    pub held : entry_stored later.a b ≡ some for_b
+    pub held : entry_stored later.a b ≡ Some for_b
     pub phase : for_b.sending.phase ≡ confirmed
     pub keys : Keeps q for_b.sending.outgoing

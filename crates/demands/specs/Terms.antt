@@ -1,7 +1,6 @@
 -- The words of the first two demands: each call's answers, a refusal, an error, what the steps of document 01 make of a
 -- call's bytes, a whole exchange.
-use Rattle.std.specs.Prelude.{◌≡◌, true, List, [], ◌∷◌, ◌++◌, ℕ, ◌+◌, eqb, length, take, drop}
-use Rattle.std.proofs.Math.Option.{Option, none, some}
+use Rattle.std.specs.Prelude.{◌≡◌, true, List, [], ◌∷◌, ◌++◌, ℕ, ◌+◌, eqb, length, take, drop, Option, None, Some}
 use Rattle.octets.specs.Text.{Text}
 use Rattle.octets.specs.Part.{bare, all_octets}
 use Rattle.octets.specs.Number.{bytes, copies}
@@ -47,8 +46,8 @@ our_identity image = bare (take 16 (drop 1 image))
 
 -- the entry that an image has for a partner
 abbrev pub in_table : Option Table → Text → Option Entry
-in_table none partner = none
-in_table (some t) partner = entry_of partner t
+in_table None partner = None
+in_table (Some t) partner = entry_of partner t
 
 unfoldable pub entry_stored : Text → Text → Option Entry
 entry_stored image partner = in_table (decode image) partner
@@ -78,11 +77,11 @@ refused n image buffer = record { answer = n; image = image; buffer = buffer; re
 pub record Complains (image text : Text) (l : Left) : Type 0 where
   pub table_stays : l.image ≡ image
   pub about : Reading
-  pub reading : read text ≡ some about
+  pub reading : read text ≡ Some about
   pub message : Esm
-  pub error : read (put_out l) ≡ some (record { rcv = about.org; org = our_identity image; body = esm message })
+  pub error : read (put_out l) ≡ Some (record { rcv = about.org; org = our_identity image; body = esm message })
   pub some_letter : message.erf ≡ 0 → ⊥
-  pub no_edc : message.edc ≡ none
+  pub no_edc : message.edc ≡ None
   pub told : l.report ≡ bytes 2 message.erf ++ (bytes 2 (length (put_out l)) ++ copies 28 0)
 
 -- ---- the steps
@@ -99,22 +98,22 @@ room_for (remove partner) = largest
 
 -- the call of document 01 that is made in so much room; none for a key that is not of 8 or 16 bytes
 abbrev pub loading : Text → Text → Option Top → Option steps.Call
-loading partner name none = none
-loading partner name (some top) = some (steps.load partner name top)
+loading partner name None = None
+loading partner name (Some top) = Some (steps.load partner name top)
 
 abbrev pub step_of : ℕ → Call → Option steps.Call
-step_of room (receive text) = some (steps.receive room text)
-step_of room (build_ksm partner request) = some (steps.about partner (steps.build_ksm room (request_in request)))
-step_of room (build_rsi partner service) = some (steps.about partner (steps.build_rsi room service))
-step_of room (ask partner) = some (steps.about partner steps.ask)
-step_of room (give_up partner) = some (steps.about partner steps.give_up)
+step_of room (receive text) = Some (steps.receive room text)
+step_of room (build_ksm partner request) = Some (steps.about partner (steps.build_ksm room (request_in request)))
+step_of room (build_rsi partner service) = Some (steps.about partner (steps.build_rsi room service))
+step_of room (ask partner) = Some (steps.about partner steps.ask)
+step_of room (give_up partner) = Some (steps.about partner steps.give_up)
 step_of room (load partner name key) = loading partner name (top_in key)
-step_of room (remove partner) = some (steps.about partner steps.remove)
+step_of room (remove partner) = Some (steps.about partner steps.remove)
 
 -- the record of an entry that is asked for
 abbrev pub record_of : Option Entry → Text
-record_of none = []
-record_of (some e) = entry_bytes e
+record_of None = []
+record_of (Some e) = entry_bytes e
 
 -- with 0 the record of the partner's entry
 unfoldable pub showing : Text → After → Outcome
@@ -135,7 +134,7 @@ in_bytes (remove partner) a = delivering a
 -- at its front and is as it was behind it, the report tells the rest; the image lent keeps its length
 pub record AsTheSteps (image buffer : Text) (c : Call) (a : After) (l : Left) : Type 0 where
   pub answer : l.answer ≡ a.outcome.answer
-  pub table : decode (kept c l) ≡ some a.table
+  pub table : decode (kept c l) ≡ Some a.table
   pub buffer_after : l.buffer ≡ replied (in_bytes c a) buffer
   pub reply : put_out l ≡ (in_bytes c a).reply
   pub report_after : l.report ≡ report_bytes (report (in_bytes c a))
@@ -178,8 +177,8 @@ pub record Exchanged (x : Exchange) (e : Entry) : Type 0 where
       ≡ tells (keys (iv_asked (request_in x.request)) (date_asked (request_in x.request)))
   pub ours : Entry
   pub theirs : Entry
-  pub our_entry : entry_stored (confirming x).image x.partner ≡ some ours
-  pub their_entry : entry_stored (taken x).image (our_identity x.a) ≡ some theirs
+  pub our_entry : entry_stored (confirming x).image x.partner ≡ Some ours
+  pub their_entry : entry_stored (taken x).image (our_identity x.a) ≡ Some theirs
   pub phase : ours.sending.phase ≡ confirmed
   pub requested : Keeps (request_in x.request) ours.sending.outgoing
   pub same_keys : theirs.receiving.incoming ≡ ours.sending.outgoing

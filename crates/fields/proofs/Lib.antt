@@ -1,6 +1,5 @@
 pub mod PieceLaws
 pub mod DigitLaws
-pub mod TableLaws
 pub mod LetterLaws
 pub mod KeyLaws
 pub mod Determined

@@ -1,19 +1,14 @@
 -- What the code answers, from what the formats of csm read.
-use Rattle.std.specs.Prelude.{false, cond, [], ◌∷◌, ◌++◌, ℕ, ◌+◌, ◌/◌, ◌%◌, ◌^◌, length}
-use Rattle.std.proofs.Math.Option.{Option, none, some}
-use Rattle.octets.specs.Text.{Text, blank}
-use Rattle.octets.specs.Part.{found, nowhere}
+use Rattle.std.specs.Prelude.{cond, [], ◌∷◌, ◌++◌, ℕ, ◌+◌, ◌/◌, ◌%◌, ◌^◌, length, Option, None, Some, option_map}
+use Rattle.octets.specs.Text.{Text, ascii, blank}
 use Rattle.octets.specs.declared.Span.{Span}
-use Rattle.csm.specs.Fields.{named, hex_text, half_digits, class_text, svr, kd, count, erf, Field, Contents, tag}
+use Rattle.csm.specs.Fields.{named, hex_text, half_digits, class_text, svr, kd, count, erf, Contents, tag}
 use Rattle.csm.specs.Fields.{MCL, RCV, ORG, SVR, NOS, KD, IV, EDK, CTP, CTR, ERF, MAC, EDC}
 use Rattle.csm.specs.Fields.{RSI, KSM, RSM, ESM, DSM, ERS, RFS, RTR}
 use Rattle.csm.specs.Fields as csm
-use Rattle.fields.specs.declared.Place.{Place}
-use Rattle.fields.specs.declared.Number.{Number}
-use Rattle.fields.specs.declared.Number.TheVariants as number
-use Rattle.fields.specs.declared.NumberField.{NumberField}
+use Rattle.fields.specs.declared.Field.{Field}
+use Rattle.fields.specs.declared.Numeral.{Numeral}
 use Rattle.fields.specs.declared.Kd.{Kd}
-use Rattle.fields.specs.declared.KeyField.{KeyField}
 use Rattle.fields.specs.declared.Class.{Class}
 use Rattle.fields.specs.declared.Class.TheVariants as class
 
@@ -21,8 +16,8 @@ use Rattle.fields.specs.declared.Class.TheVariants as class
 
 -- what was read, without what follows it
 abbrev pub taken : {A : Type 0} → Option (A × Text) → Option A
-taken none = none
-taken (some p) = some p.0
+taken None = None
+taken (Some p) = Some p.0
 
 -- contents that stand for themselves
 abbrev pub itself : Text → Text
@@ -33,7 +28,7 @@ abbrev pub check_text : ℕ → Text
 check_text n = hex_text half_digits (n / 16 ^ half_digits) ++ blank ∷ hex_text half_digits (n % 16 ^ half_digits)
 
 -- a field's contents, without the blank after them
-abbrev pub inner : (f : Field) → Contents f → Text
+abbrev pub inner : (f : csm.Field) → Contents f → Text
 inner MCL c = class_text c
 inner RCV w = w
 inner ORG w = w
@@ -51,42 +46,34 @@ inner EDC n = check_text n
 -- ---- where contents stand that have that text
 
 -- the contents of a field whose tag starts at `at`
-abbrev pub span_of : {A : Type 0} → (A → Text) → ℕ → Text → Option A → Span
-span_of text at tag none = nowhere
-span_of text at tag (some a) = record { at = at + length tag; length = length (text a) }
+abbrev pub span_of : {A : Type 0} → (A → Text) → ℕ → Text → A → Span
+span_of text at tag a = record { at = at + length tag; length = length (text a) }
 
--- what follows the field: behind the blank after its contents
+-- what follows the field: behind the blank after its contents, or where it was sought
 abbrev pub next_of : {A : Type 0} → (A → Text) → ℕ → Text → Option A → ℕ
-next_of text at tag none = at
-next_of text at tag (some a) = at + length tag + length (text a) + 1
+next_of text at tag None = at
+next_of text at tag (Some a) = at + length tag + length (text a) + 1
 
-abbrev pub place_of : {A : Type 0} → (A → Text) → ℕ → Text → Option A → Place
-place_of text at tag o = record { there = found o; span = span_of text at tag o; next = next_of text at tag o }
+-- a field whose contents are shown as `show` says, from them and from where they stand
+abbrev pub field_at : {A B : Type 0} → (Span → A → B) → (A → Text) → ℕ → Text → Option A → Field B
+field_at show text at tag o = record {
+  contents = option_map (λ a. show (span_of text at tag a) a) o;
+  next = next_of text at tag o;
+}
 
--- a field that is missing
-abbrev pub nothing_at : ℕ → Place
-nothing_at at = record { there = false; span = nowhere; next = at }
+-- ---- what contents are shown as
 
--- ---- what contents stand for
-
--- the number, if there is one
-abbrev pub number_seen : Option ℕ → Number
-number_seen none = number.Nothing
-number_seen (some n) = number.Is n
-
--- zero where there is none
-abbrev pub number_or_zero : Option ℕ → ℕ
-number_or_zero none = 0
-number_or_zero (some n) = n
+-- the part where they stand
+abbrev pub as_part : {A : Type 0} → Span → A → Span
+as_part s a = s
 
 -- CTP, CTR, SVR, ERF, MAC, EDC: the number, and where its text stands
-abbrev pub number_at : (ℕ → Text) → ℕ → Text → Option ℕ → NumberField
-number_at text at tag o = record { value = number_or_zero o; place = place_of text at tag o }
+abbrev pub as_number : Span → ℕ → Numeral
+as_number s n = record { value = n; span = s }
 
--- a name that would stand at `at`
-abbrev pub name_at : ℕ → Option Text → Span
-name_at at none = nowhere
-name_at at (some w) = record { at = at; length = length w }
+-- a name that stands at `at`
+abbrev pub name_at : ℕ → Text → Span
+name_at at w = record { at = at; length = length w }
 
 -- IDK1 stands behind 16 digits, a dot, P or nothing, and a dot
 abbrev pub names_at : ℕ → csm.Kd → ℕ
@@ -98,21 +85,13 @@ kd_of at k = record {
   key = k.key;
   p = k.p;
   contents = record { at = at; length = length (kd.text k) };
-  idk1 = name_at (names_at at k) k.idk1;
-  idk2 = name_at (names_at at k + length (named k.idk1) + 1) k.idk2;
+  idk1 = option_map (name_at (names_at at k)) k.idk1;
+  idk2 = option_map (name_at (names_at at k + length (named k.idk1) + 1)) k.idk2;
 }
 
--- zeros where there is none
-abbrev pub no_kd : Kd
-no_kd = record { key = 0; p = false; contents = nowhere; idk1 = nowhere; idk2 = nowhere }
-
-abbrev pub kd_at : ℕ → Option csm.Kd → Kd
-kd_at at none = no_kd
-kd_at at (some k) = kd_of at k
-
--- KD: it, and where it stands
-abbrev pub key_at : ℕ → Option csm.Kd → KeyField
-key_at at o = record { kd = kd_at (at + length (tag KD)) o; place = place_of kd.text at (tag KD) o }
+-- KD
+abbrev pub as_key : Span → csm.Kd → Kd
+as_key s k = kd_of s.at k
 
 -- the class in the code
 abbrev pub class_of : csm.Class → Class
@@ -125,7 +104,48 @@ class_of ERS = class.Ers
 class_of RFS = class.Rfs
 class_of RTR = class.Rtr
 
+-- its name
+abbrev pub class_name : Class → Text
+class_name class.Rsi = ascii "RSI"
+class_name class.Ksm = ascii "KSM"
+class_name class.Rsm = ascii "RSM"
+class_name class.Esm = ascii "ESM"
+class_name class.Dsm = ascii "DSM"
+class_name class.Ers = ascii "ERS"
+class_name class.Rfs = ascii "RFS"
+class_name class.Rtr = ascii "RTR"
+
 -- MCL
-abbrev pub class_seen : Option csm.Class → Class
-class_seen none = class.Nothing
-class_seen (some c) = class_of c
+abbrev pub as_class : Span → csm.Class → Class
+as_class s c = class_of c
+
+-- of each field
+abbrev pub Shown : csm.Field → Type 0
+Shown MCL = Class
+Shown RCV = Span
+Shown ORG = Span
+Shown SVR = Numeral
+Shown NOS = Span
+Shown KD = Kd
+Shown IV = Span
+Shown EDK = Span
+Shown CTP = Numeral
+Shown CTR = Numeral
+Shown ERF = Numeral
+Shown MAC = Numeral
+Shown EDC = Numeral
+
+abbrev pub shown : (f : csm.Field) → Span → Contents f → Shown f
+shown MCL = as_class
+shown RCV = as_part
+shown ORG = as_part
+shown SVR = as_number
+shown NOS = as_part
+shown KD = as_key
+shown IV = as_part
+shown EDK = as_part
+shown CTP = as_number
+shown CTR = as_number
+shown ERF = as_number
+shown MAC = as_number
+shown EDC = as_number

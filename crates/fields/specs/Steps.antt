@@ -1,76 +1,52 @@
 -- What private functions answer on the way: no public contract cites it.
-use Rattle.std.specs.Prelude.{Bool, cond, List, [], ◌∷◌, ℕ, ◌+◌, eqb, length, get_or}
-use Rattle.std.proofs.Math.Option.{Option, none, some}
+use Rattle.std.specs.Prelude.{◌≡◌, cond, List, [], ◌∷◌, ℕ, ◌+◌, length, get_or, Option, None, Some, option_map}
 use Rattle.octets.specs.Text.{Text, ascii, blank, same}
-use Rattle.octets.specs.Part.{nowhere}
-use Rattle.octets.specs.declared.Span.{Span}
 use Rattle.csm.specs.Format.{bind, after, until}
-use Rattle.csm.specs.Fields.{onto, half_digits, join_halves}
-use Rattle.csm.specs.Fields as csm
+use Rattle.csm.specs.Fields.{split, nonempty}
 use Rattle.csm.proofs.KdTest.{is_subs}
-use Rattle.fields.specs.Seen.{nothing_at, kd_of, no_kd}
-use Rattle.fields.specs.declared.Place.{Place}
-use Rattle.fields.specs.declared.Number.{Number}
-use Rattle.fields.specs.declared.Number.TheVariants as number
-use Rattle.fields.specs.declared.NumberField.{NumberField}
-use Rattle.fields.specs.declared.KeyField.{KeyField}
-use Rattle.fields.specs.declared.keys.Keyed.{Keyed}
-use Rattle.fields.specs.declared.keys.Keyed.TheVariants as key
+use Rattle.fields.specs.Seen.{name_at}
+use Rattle.fields.specs.declared.Field.{Field}
 use Rattle.fields.specs.declared.keys.Subfields.{Subfields}
-use Rattle.fields.specs.declared.keys.Subfields.TheVariants as subfields
 
 -- behind a tag at the front of s: what stands before the first blank, and what follows it
 unfoldable pub piece : Text → Text → Option (Text × Text)
 piece tag s = bind (after tag s) (until blank)
 
--- a field whose contents pass their test
-abbrev pub kept : ℕ → Place → Bool → Place
-kept at p holds = cond holds p (nothing_at at)
+-- a text at its place
+abbrev pub placed : ℕ → Text → ℕ × Text
+placed at w = (at, w)
 
--- a field whose contents stand for a number
-abbrev pub with_number : ℕ → Place → Number → NumberField
-with_number at p number.Nothing = record { value = 0; place = nothing_at at }
-with_number at p (number.Is n) = record { value = n; place = p }
+-- a field with that tag at `at`, whose contents w are shown as o, if as anything
+abbrev pub shown_as : {A : Type 0} → ℕ → Text → Text → Option A → Field A
+shown_as at tag w None = record { contents = None; next = at }
+shown_as at tag w (Some a) = record { contents = Some a; next = at + length tag + length w + 1 }
 
-abbrev pub placed : ℕ → Place → Number → NumberField
-placed at p n = cond p.there (with_number at p n) (record { value = 0; place = nothing_at at })
+-- what a closure, of which `gives` says what it gives of a piece, makes of what stands before the first blank
+abbrev pub ReadAs : {P A : Type 0} → (P → ℕ × Text) → (P → Option A → Type 0) → ℕ → Text → Option Text → Field A → Type 0
+ReadAs told gives at tag None r = r ≡ record { contents = None; next = at }
+ReadAs told gives at tag (Some w) r =
+    (p : _) × (o : _) × (told p ≡ placed (at + length tag) w) × gives p o × (r ≡ shown_as at tag w o)
 
--- the place of two halves with a blank between them
-abbrev pub joined : Place → Place → Place
-joined p q = record { there = q.there; span = record { at = p.span.at; length = 9 }; next = q.next }
+-- a piece up to the first dot, and what stands behind that dot, each with its place
+abbrev pub behind : Option (ℕ × Text) → List Text
+behind None = []
+behind (Some r) = split r.1
 
--- the number of two halves
-abbrev pub halves : Option ℕ → Option ℕ → Option ℕ
-halves o p = bind o (λ h. bind p (λ l. some (join_halves half_digits (h, l))))
+pub record Parted (p q : ℕ × Text) (r : Option (ℕ × Text)) : Type 0 where
+  pub text : split p.1 ≡ q.1 ∷ behind r
+  pub at : q.0 ≡ p.0
+  pub next : option_map (λ s. s.0) r ≡ option_map (λ s. p.0 + length q.1 + 1) r
 
--- the KD, if there is one
-abbrev pub key_seen : ℕ → Option csm.Kd → Keyed
-key_seen at none = key.Nothing
-key_seen at (some k) = key.Is (kd_of at k)
-
--- a field whose contents are a KD
-abbrev pub keyed_at : ℕ → Place → Keyed → KeyField
-keyed_at at p key.Nothing = record { kd = no_kd; place = nothing_at at }
-keyed_at at p (key.Is k) = record { kd = k; place = p }
-
--- the texts of a table, each ended by a blank, the last one by the end
-abbrev pub texts : Text → List Text
-texts [] = []
-texts (x ∷ s) = cond (eqb x blank) ([] ∷ texts s) (onto x (texts s))
-
--- 1 where the text starts with x, else 0
-abbrev pub here : ℕ → Text → ℕ
-here x [] = 0
-here x (y ∷ s) = cond (eqb y x) 1 0
-
--- a name of that length that would stand at `at`
-unfoldable pub held : ℕ → ℕ → Span
-held at n = cond (eqb n 0) nowhere (record { at = at; length = n })
-
--- the subfields of a KD from the pieces behind its key: the mark, and the names, where IDK1 would stand at `at`
-unfoldable pub subfields_seen : ℕ → List Text → Subfields
+-- the subfields of a KD from the pieces behind its key, which start at `at`: the mark, and the names
+unfoldable pub subfields_seen : ℕ → List Text → Option Subfields
 subfields_seen at l =
+    let mark = get_or l 0 [] in
+    let first = get_or l 1 [] in
+    let i = at + length mark + 1 in
     cond (is_subs l)
-    (subfields.Are (same (get_or l 0 []) (ascii "P")) (held at (length (get_or l 1 [])))
-    (held (at + length (get_or l 1 []) + 1) (length (get_or l 2 []))))
-    subfields.Nothing
+    (Some (record {
+      p = same mark (ascii "P");
+      idk1 = option_map (name_at i) (nonempty first);
+      idk2 = option_map (name_at (i + length first + 1)) (nonempty (get_or l 2 []));
+    }))
+    None

@@ -1,8 +1,8 @@
 -- The contracts of `khl_*` say what Face.antt says.
+use Rattle.std.specs.Prelude.{Option, None, Some}
 use mathlib.Core.Path.{◌≡◌, refl, sym, ap}
 use mathlib.Core.List.{◌++◌}
 use Prim.Native.Nat.{ℕ}
-use mathlib.Core.Option.{Option, none, some}
 use lib.ListN.{length, drop}
 use Rattle.octets.specs.Text.{Text}
 use Rattle.partner.specs.Table.{Table}
@@ -54,11 +54,11 @@ unfolding replied outcome_over
 nothing_written image partner buffer = go (decode image)
   where
     go : (o : Option Table) → buffer ≡ replied (elim o as (λ x. Outcome) [
-      | none ↦ refusal 13
-      | some t ↦ (run t (steps.about partner steps.give_up)).outcome
+      | None ↦ refusal 13
+      | Some t ↦ (run t (steps.about partner steps.give_up)).outcome
     ]) buffer
-    go none = refl
-    go (some t) = ap (λ (w : Text). w ++ drop (length w) buffer) (sym (give_up_silent t partner))
+    go None = refl
+    go (Some t) = ap (λ (w : Text). w ++ drop (length w) buffer) (sym (give_up_silent t partner))
 
 pub contracts : Contracts
 unfolding leaves start_leaves

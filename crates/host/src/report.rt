@@ -10,7 +10,7 @@ use outcome::Report;
 fn mark(b: bool) -> u64
     ensures { result ≡ reports.mark b }
 {
-    if b { 1 } else { 0 }
+    u64::from(b)
 }
 
 // Letters 2, length 2, class 1.

@@ -1,8 +1,8 @@
 -- What the writers leave in a lent buffer, and what is delivered there.
+use Rattle.std.specs.Prelude.{Option, None, Some}
 use mathlib.Core.Path.{◌≡◌, refl, sym, ap, ◌∙◌}
 use mathlib.Core.Bool.{Bool, true, false}
 use mathlib.Core.List.{[], ◌∷◌, ◌++◌, append_assoc, append-nil}
-use mathlib.Core.Option.{Option, none, some}
 use Prim.Native.Nat.{ℕ, zero, suc, ◌+◌, ◌-◌, ◌≤◌, ◌<◌}
 use native.Mathlib.Omega.{arith}
 use lib.Dec.{ltb, leb}
@@ -20,38 +20,38 @@ use Rattle.partner.specs.Table.{started, empties}
 use Rattle.image.specs.Image.{slots_bytes, encode, partner_size, smallest}
 use Rattle.image.specs.Places.{slot_place, splice, with_entry, with_partner, without_partner}
 use Rattle.image.specs.Results.{put_back, added, removed, put_slot, added_slot, removed_slot}
-use Rattle.image.specs.Results.{delivered, size_delivered}
+use Rattle.image.specs.Results.{delivered, length_delivered}
 use Rattle.image.proofs.Slots.{vacant_bytes}
 use Rattle.image.proofs.Updates.{splice_size}
 
 -- ---- delivered or not
 
--- a buffer and a number are what is delivered
-pub record Given (image : Option Text) (out out' : Text) (n : ℕ) : Type 0 where
-  pub buffer : out' ≡ delivered image out
-  pub size : n ≡ size_delivered image out
+-- a buffer and a length are what is delivered
+pub record Given (image : Option Text) (out out' : Text) (n : Option ℕ) : Type 0 where
+  pub out_after : out' ≡ delivered image out
+  pub value : n ≡ length_delivered image out
 
-pub given_none : (out : Text) → Given none out out 0
-unfolding delivered size_delivered
-given_none out = record { buffer = refl; size = refl }
+pub given_none : (out : Text) → Given None out out None
+unfolding delivered length_delivered
+given_none out = record { out_after = refl; value = refl }
 
-pub given_no_room : (t out : Text) → length out < length t → Given (some t) out out 0
-unfolding delivered size_delivered
+pub given_no_room : (t out : Text) → length out < length t → Given (Some t) out out None
+unfolding delivered length_delivered
 given_no_room t out h =
     let e : leb (length t) (length out) ≡ false = lt-leb (length t) (length out) h in
-    record { buffer = rw e; size = rw e }
+    record { out_after = rw e; value = rw e }
 
-pub given_wrote : {t out out' : Text} {n : ℕ} → length t ≤ length out → Wrote t out out' n → Given (some t) out out' n
-unfolding delivered size_delivered
+pub given_wrote : {t out out' : Text} {n : ℕ} → length t ≤ length out → Wrote t out out' n → Given (Some t) out out' (Some n)
+unfolding delivered length_delivered
 given_wrote {t} {out} {out'} {n} h w =
     let e : leb (length t) (length out) ≡ true = le-leb (length t) (length out) h in
     let f = wrote_fits w h in
-    record { buffer = rw e f.0; size = rw e f.1 }
+    record { out_after = rw e f.0; value = rw e (ap Some f.1) }
 
 -- where there is room
 pub delivered_room : (t out : Text) → length t ≤ length out
-    → (delivered (some t) out ≡ t ++ drop (length t) out) × (size_delivered (some t) out ≡ length t)
-unfolding delivered size_delivered
+    → (delivered (Some t) out ≡ t ++ drop (length t) out) × (length_delivered (Some t) out ≡ Some (length t))
+unfolding delivered length_delivered
 delivered_room t out h =
     let e : leb (length t) (length out) ≡ true = le-leb (length t) (length out) h in
     (rw e, rw e)
@@ -63,12 +63,12 @@ unfolding put_back
 put_back_within at e image h = rw (le-leb (at + partner_size) (length image) h)
 
 pub added_within : (at : ℕ) (e : Entry) (image : Text) → at < length image
-    → added at e image ≡ some (with_partner at e image)
+    → added at e image ≡ Some (with_partner at e image)
 unfolding added
 added_within at e image h = rw (lt-ltb at (length image) h)
 
 pub removed_within : (at : ℕ) (image : Text) → at + partner_size ≤ length image
-    → removed at image ≡ some (without_partner at image)
+    → removed at image ≡ Some (without_partner at image)
 unfolding removed
 removed_within at image h = rw (le-leb (at + partner_size) (length image) h)
 
@@ -86,24 +86,10 @@ module _ (k : ℕ) (image : Text) (h : k < 64) where
   unfolding removed_slot
   removed_slot_within = rw (lt-ltb k 64 h)
 
--- and past them
-module _ (k : ℕ) (image : Text) (h : 64 ≤ k) where
-  pub put_slot_past : (e : Entry) → image ≡ put_slot k e image
-  unfolding put_slot
-  put_slot_past e = rw (le-ltb k 64 h)
-
-  pub added_slot_past : (e : Entry) (out : Text) → Given (added_slot k e image) out out 0
-  unfolding added_slot
-  added_slot_past e out = rw (le-ltb k 64 h) (given_none out)
-
-  pub removed_slot_past : (out : Text) → Given (removed_slot k image) out out 0
-  unfolding removed_slot
-  removed_slot_past out = rw (le-ltb k 64 h) (given_none out)
-
 -- ---- a partner added, a partner taken out
 
 module _ (at : ℕ) (image out : Text) where
-  pub added_outside : (e : Entry) → length image ≤ at → Given (added at e image) out out 0
+  pub added_outside : (e : Entry) → length image ≤ at → Given (added at e image) out out None
   unfolding added
   added_outside e h = rw (le-ltb at (length image) h) (given_none out)
 
@@ -112,17 +98,17 @@ module _ (at : ℕ) (image out : Text) where
     unfolding with_partner
     added_size = omega (arith, splice_size at 1 (2 ∷ entry_bytes e) image (omega arith))
 
-    pub added_no_room : length out < length image + entry_size → Given (added at e image) out out 0
+    pub added_no_room : length out < length image + entry_size → Given (added at e image) out out None
     unfolding added
     added_no_room k =
         rw (lt-ltb at (length image) h) (given_no_room (with_partner at e image) out (omega (arith, added_size)))
 
     pub added_wrote : {out' : Text} {n : ℕ} → length image + entry_size ≤ length out
-        → Wrote (with_partner at e image) out out' n → Given (added at e image) out out' n
+        → Wrote (with_partner at e image) out out' n → Given (added at e image) out out' (Some n)
     unfolding added
     added_wrote k w = rw (lt-ltb at (length image) h) (given_wrote (omega (arith, added_size)) w)
 
-  pub removed_outside : length image < at + partner_size → Given (removed at image) out out 0
+  pub removed_outside : length image < at + partner_size → Given (removed at image) out out None
   unfolding removed
   removed_outside h = rw (lt-leb (at + partner_size) (length image) h) (given_none out)
 
@@ -131,14 +117,14 @@ module _ (at : ℕ) (image out : Text) where
     unfolding without_partner
     removed_size = omega (arith, splice_size at partner_size (0 ∷ []) image h)
 
-    pub removed_no_room : length out + entry_size < length image → Given (removed at image) out out 0
+    pub removed_no_room : length out + entry_size < length image → Given (removed at image) out out None
     unfolding removed
     removed_no_room k =
         rw (le-leb (at + partner_size) (length image) h)
         (given_no_room (without_partner at image) out (omega (arith, removed_size)))
 
     pub removed_wrote : {out' : Text} {n : ℕ} → length image ≤ length out + entry_size
-        → Wrote (without_partner at image) out out' n → Given (removed at image) out out' n
+        → Wrote (without_partner at image) out out' n → Given (removed at image) out out' (Some n)
     unfolding removed
     removed_wrote k w = rw (le-leb (at + partner_size) (length image) h) (given_wrote (omega (arith, removed_size)) w)
 

@@ -1,8 +1,8 @@
 -- The claims hold.
+use Rattle.std.specs.Prelude.{Some}
 use mathlib.Core.Path.{◌≡◌, refl, sym, ap, ◌∙◌, subst}
 use mathlib.Core.Bool.{true, false, not, true≢false}
 use mathlib.Core.List.{[], ◌∷◌}
-use mathlib.Core.Option.{some}
 use Prim.Native.Nat.{ℕ, zero, suc, ◌+◌, ◌≤◌, ◌<◌}
 use native.Mathlib.Omega.{arith}
 use lib.ListN.{length}
@@ -52,7 +52,7 @@ unfolding empties
 identities_empties zero = refl
 identities_empties (suc n) = identities_vacant (empties n) ∙ identities_empties n
 
-start_legal : (own : Name) → rule.is_filled own.bytes ≡ true → decode (encode (started own)) ≡ some (started own)
+start_legal : (own : Name) → rule.is_filled own.bytes ≡ true → decode (encode (started own)) ≡ Some (started own)
 start_legal own h =
     let t = started own in
     let r : Rules t = record {
@@ -65,13 +65,13 @@ start_legal own h =
 
 -- ---- a slot changed
 
-module _ (s : Text) (t : Table) (k : ℕ) (h : decode s ≡ some t) (w : k < 64) where
+module _ (s : Text) (t : Table) (k : ℕ) (h : decode s ≡ Some t) (w : k < 64) where
   abbrev d : Decoded s t
   d = decoded s t h
 
   put_back : (e : Entry) → is_empty (in_slot k t) ≡ false → rule.legal e ≡ true → Held e
       → e.identity.bytes ≡ (in_slot k t).identity.bytes
-      → (decode (put_slot k e s) ≡ some (with_slot k e t)) × (length (put_slot k e s) ≡ length s)
+      → (decode (put_slot k e s) ≡ Some (with_slot k e t)) × (length (put_slot k e s) ≡ length s)
   put_back e f l q i =
       let kept = held_kept e q in
       let g = legal_full e l in
@@ -83,7 +83,7 @@ module _ (s : Text) (t : Table) (k : ℕ) (h : decode s ≡ some t) (w : k < 64)
 
   added : (e : Entry) → is_empty (in_slot k t) ≡ true → rule.legal e ≡ true → Held e
       → differs e.identity.bytes (t.own ∷ identities t.slots) ≡ true
-      → (u : Text) × ((added_slot k e s ≡ some u) × ((decode u ≡ some (with_slot k e t)) × (length u ≡ length s + entry_size)))
+      → (u : Text) × ((added_slot k e s ≡ Some u) × ((decode u ≡ Some (with_slot k e t)) × (length u ≡ length s + entry_size)))
   added e f l q a =
       let kept = held_kept e q in
       let st = stored_set e (λ m. used l kept) t.slots d.stored k in
@@ -101,8 +101,8 @@ module _ (s : Text) (t : Table) (k : ℕ) (h : decode s ≡ some t) (w : k < 64)
       )
 
   removed : is_empty (in_slot k t) ≡ false
-      → (u : Text) × ((removed_slot k s ≡ some u)
-      × ((decode u ≡ some (with_slot k empty t)) × (length u + entry_size ≡ length s)))
+      → (u : Text) × ((removed_slot k s ≡ Some u)
+      × ((decode u ≡ Some (with_slot k empty t)) × (length u + entry_size ≡ length s)))
   removed f =
       let st = stored_set empty (λ m. vacant) t.slots d.stored k in
       let n = full_size t.slots d.stored k f in

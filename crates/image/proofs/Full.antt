@@ -1,7 +1,7 @@
 -- The largest and the smallest image: 64 partners with different identities, and none; by computation.
+use Rattle.std.specs.Prelude.{Some}
 use mathlib.Core.Path.{◌≡◌, refl}
 use mathlib.Core.List.{List, [], ◌∷◌, ◌++◌}
-use mathlib.Core.Option.{some}
 use Prim.Native.Nat.{ℕ, zero, suc, ◌+◌, ◌-◌, ◌/◌, ◌%◌}
 use lib.ListN.{length}
 use Rattle.octets.specs.Text.{ascii}
@@ -27,7 +27,7 @@ unfoldable pub full : ℕ → Table
 unfolding partners digits
 full n = harbor (partners n ++ vacants (64 - n))
 
-pub full_read : decode (encode (full 64)) ≡ some (full 64)
+pub full_read : decode (encode (full 64)) ≡ Some (full 64)
 unfolding computes full
 full_read = refl
 
@@ -35,7 +35,7 @@ pub full_length : length (encode (full 64)) ≡ largest
 unfolding computes full
 full_length = refl
 
-pub bare_read : decode (encode (full 0)) ≡ some (full 0)
+pub bare_read : decode (encode (full 0)) ≡ Some (full 0)
 unfolding computes full
 bare_read = refl
 

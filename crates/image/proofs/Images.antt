@@ -1,8 +1,8 @@
 -- A table and its image: an image is decoded exactly where it is what writing a legal table gives.
+use Rattle.std.specs.Prelude.{Option, None, Some}
 use mathlib.Core.Path.{◌≡◌, refl, sym, ap, ◌∙◌, subst}
 use mathlib.Core.Bool.{Bool, true, false, cond, ◌&&◌, true≢false}
 use mathlib.Core.List.{◌∷◌, ◌++◌}
-use mathlib.Core.Option.{Option, none, some}
 use Prim.Native.Nat.{ℕ, ◌≤◌}
 use native.Mathlib.Omega.{arith}
 use lib.Dec.{eqb, ltb}
@@ -64,7 +64,7 @@ table_back t r st =
     ∙ slots_back t.slots st in
     λ j. record { own = o j; slots = l j }
 
-pub decode_encode : (t : Table) → legal t ≡ true → Stored t.slots → decode (encode t) ≡ some t
+pub decode_encode : (t : Table) → legal t ≡ true → Stored t.slots → decode (encode t) ≡ Some t
 unfolding decode
 decode_encode t h st =
     rw (table_back t (rules t h) st, h, same_self (encode t))
@@ -77,12 +77,12 @@ pub record Decoded (s : Text) (t : Table) : Type 0 where
   pub is_legal : legal t ≡ true
   pub stored : Stored t.slots
 
-read_back : (s : Text) (t : Table) → decode s ≡ some t → (table_in s ≡ t) × ((legal t ≡ true) × (encode t ≡ s))
+read_back : (s : Text) (t : Table) → decode s ≡ Some t → (table_in s ≡ t) × ((legal t ≡ true) × (encode t ≡ s))
 unfolding decode
 read_back s t h = go (legal (table_in s)) refl (same (encode (table_in s)) s) refl h
   where
     go : (a : Bool) → legal (table_in s) ≡ a → (b : Bool) → same (encode (table_in s)) s ≡ b
-        → cond (a && b) (some (table_in s)) none ≡ some t
+        → cond (a && b) (Some (table_in s)) None ≡ Some t
         → (table_in s ≡ t) × ((legal t ≡ true) × (encode t ≡ s))
     go true p true q e =
         let i : table_in s ≡ t = cc in
@@ -99,7 +99,7 @@ slots_read t r e =
     let l : slots_in 64 (drop 16 (t.own ++ b)) ≡ t.slots = ap (λ (u : Table). u.slots) e in
     sym l ∙ ap (slots_in 64) (drop_at t.own b 16 n) ∙ ap (λ (k : ℕ). slots_in k b) (sym r.slots_64)
 
-pub decoded : (s : Text) (t : Table) → decode s ≡ some t → Decoded s t
+pub decoded : (s : Text) (t : Table) → decode s ≡ Some t → Decoded s t
 decoded s t h =
     let b = read_back s t h in
     let r = rules t b.1.0 in
@@ -111,7 +111,7 @@ decoded s t h =
     }
 
 -- its slots are those that are read of the image
-pub slots_there : (s : Text) (t : Table) → decode s ≡ some t → t.slots ≡ slots_in 64 (drop front_size s)
+pub slots_there : (s : Text) (t : Table) → decode s ≡ Some t → t.slots ≡ slots_in 64 (drop front_size s)
 unfolding table_in
 slots_there s t h = ap (λ (u : Table). u.slots) (sym (read_back s t h).0)
 
@@ -129,7 +129,7 @@ image_size t r st =
 
 -- ---- what is read of octets fits its types
 
-pub held_slots : (s : Text) (t : Table) → all_octets s ≡ true → decode s ≡ some t → AllHeld t.slots
+pub held_slots : (s : Text) (t : Table) → all_octets s ≡ true → decode s ≡ Some t → AllHeld t.slots
 unfolding table_in
 held_slots s t o h =
     subst (λ (u : Table). AllHeld u.slots) (read_back s t h).0
@@ -137,16 +137,16 @@ held_slots s t o h =
 
 -- ---- decoded or not
 
-pub table_there : (s : Text) → found (decode s) ≡ true → (t : Table) × (decode s ≡ some t)
+pub table_there : (s : Text) → found (decode s) ≡ true → (t : Table) × (decode s ≡ Some t)
 table_there s h = go (decode s) refl h
   where
-    go : (o : Option Table) → decode s ≡ o → found o ≡ true → (t : Table) × (decode s ≡ some t)
-    go none e h = absurd (true≢false (sym h))
-    go (some t) e h = (t, e)
+    go : (o : Option Table) → decode s ≡ o → found o ≡ true → (t : Table) × (decode s ≡ Some t)
+    go None e h = absurd (true≢false (sym h))
+    go (Some t) e h = (t, e)
 
-pub table_missing : (s : Text) → found (decode s) ≡ false → decode s ≡ none
+pub table_missing : (s : Text) → found (decode s) ≡ false → decode s ≡ None
 table_missing s h = go (decode s) refl h
   where
-    go : (o : Option Table) → decode s ≡ o → found o ≡ false → decode s ≡ none
-    go none e h = e
-    go (some t) e h = absurd (true≢false h)
+    go : (o : Option Table) → decode s ≡ o → found o ≡ false → decode s ≡ None
+    go None e h = e
+    go (Some t) e h = absurd (true≢false h)

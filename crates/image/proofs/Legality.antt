@@ -1,8 +1,8 @@
 -- An image is legal exactly where a pass over its front and its records finds nothing wrong.
+use Rattle.std.specs.Prelude.{Option, None, Some}
 use mathlib.Core.Path.{◌≡◌, refl, sym, ap, ◌∙◌}
 use mathlib.Core.Bool.{Bool, true, false, ◌&&◌, true≢false}
 use mathlib.Core.List.{◌∷◌, ◌++◌}
-use mathlib.Core.Option.{Option, none, some}
 use Prim.Native.Nat.{ℕ, suc, ◌<◌}
 use native.Mathlib.Omega.{arith}
 use lib.Dec.{eqb}
@@ -61,7 +61,7 @@ module _ (t : Table) (own_16 : length t.own ≡ 16) (slots_64 : length t.slots �
 
 -- ---- a legal image passes
 
-passes : (s : Text) (t : Table) → decode s ≡ some t → front_legal s && records_legal 64 front_size s ≡ true
+passes : (s : Text) (t : Table) → decode s ≡ Some t → front_legal s && records_legal 64 front_size s ≡ true
 passes s t h =
     let d = decoded s t h in
     let r = rules t d.is_legal in
@@ -96,7 +96,7 @@ written_so s k n w =
     ap (λ (t : Text). 1 ∷ (own_in s ++ t)) w.bytes ∙ sym (front_split s k n)
 
 taken : (s : Text) → all_octets s ≡ true → front_legal s && records_legal 64 front_size s ≡ true
-    → decode s ≡ some (read_so s)
+    → decode s ≡ Some (read_so s)
 unfolding read_so
 taken s o h =
     let t : Table = read_so s in
@@ -120,7 +120,7 @@ pub legal_pass : (s : Text) → all_octets s ≡ true → found (decode s) ≡ f
 legal_pass s o = go (decode s) refl (front_legal s && records_legal 64 front_size s) refl
   where
     go : (d : Option Table) → decode s ≡ d → (b : Bool) → front_legal s && records_legal 64 front_size s ≡ b → found d ≡ b
-    go none p true q = absurd (let z : ◌≡◌ {A = Bool} true false = ap found (sym (taken s o q) ∙ p) in true≢false z)
-    go none p false q = refl
-    go (some t) p true q = refl
-    go (some t) p false q = absurd (true≢false (sym (passes s t p) ∙ q))
+    go None p true q = absurd (let z : ◌≡◌ {A = Bool} true false = ap found (sym (taken s o q) ∙ p) in true≢false z)
+    go None p false q = refl
+    go (Some t) p true q = refl
+    go (Some t) p false q = absurd (true≢false (sym (passes s t p) ∙ q))

@@ -1,10 +1,10 @@
 -- The slots of a legal image by their numbers: they are the table's, a partner's slot and the lowest empty one are found
 -- where the table has them, and an image with a slot changed, filled or emptied is that of the table so changed.
+use Rattle.std.specs.Prelude.{Option, None, Some}
 use mathlib.Core.Path.{◌≡◌, sym, ap, ◌∙◌, subst}
 use mathlib.Core.Bool.{true, false, true≢false}
 use mathlib.Core.List.{List, [], ◌∷◌, ◌++◌}
 use mathlib.Core.Logic.{⊎_elim}
-use mathlib.Core.Option.{Option, none, some}
 use Prim.Native.Nat.{ℕ, zero, suc, ◌+◌, ◌≤◌, ◌<◌}
 use native.Mathlib.Omega.{arith}
 use lib.Dec.{ltb}
@@ -64,7 +64,7 @@ pub slot_held : (image : Text) (k : ℕ) → all_octets image ≡ true → Held 
 slot_held image k o =
     held_at (slots_in 64 (drop front_size image)) k (row_held 64 (drop front_size image) (all_drop (λ b. ltb b 256) front_size image o))
 
-module _ (image : Text) (t : Table) (d : decode image ≡ some t) where
+module _ (image : Text) (t : Table) (d : decode image ≡ Some t) where
   abbrev is : Decoded image t
   is = decoded image t d
 
@@ -76,7 +76,7 @@ module _ (image : Text) (t : Table) (d : decode image ≡ some t) where
 
   -- ---- found
 
-  pub slot_found : (id : Text) (e : Entry) → partner.is_filled id ≡ true → find id t.slots ≡ some e
+  pub slot_found : (id : Text) (e : Entry) → partner.is_filled id ≡ true → find id t.slots ≡ Some e
       → (slot_of id image < 64) × (get_or t.slots (slot_of id image) empty ≡ e) × (is_empty e ≡ false)
       × ((x : Entry) → set t.slots (slot_of id image) x ≡ put id x t.slots)
   slot_found id e f h =
@@ -89,10 +89,10 @@ module _ (image : Text) (t : Table) (d : decode image ≡ some t) where
       × ((x : Entry) → set t.slots k x ≡ put id x t.slots))
       (sym (slot_there image t is id (is_filled_real id f))) (omega arith, r.holds, g, r.changed)
 
-  pub slot_missed : (id : Text) → partner.is_filled id ≡ true → find id t.slots ≡ none → slot_of id image ≡ 64
+  pub slot_missed : (id : Text) → partner.is_filled id ≡ true → find id t.slots ≡ None → slot_of id image ≡ 64
   slot_missed id f h = slot_there image t is id (is_filled_real id f) ∙ number_missed id t.slots h ∙ slots_64
 
-  pub free_found : (x : Entry) (m : List Entry) → into_free_slot x t.slots ≡ some m
+  pub free_found : (x : Entry) (m : List Entry) → into_free_slot x t.slots ≡ Some m
       → (free_slot image < 64) × (get_or t.slots (free_slot image) empty ≡ empty)
       × (set t.slots (free_slot image) x ≡ m)
   free_found x m h =
@@ -102,7 +102,7 @@ module _ (image : Text) (t : Table) (d : decode image ≡ some t) where
       subst (λ (k : ℕ). (k < 64) × (get_or t.slots k empty ≡ empty) × (set t.slots k x ≡ m))
       (sym (free_there image t is)) (omega arith, empty_there t.slots is.stored _ r.holds, r.changed)
 
-  pub free_missed : (x : Entry) → into_free_slot x t.slots ≡ none → free_slot image ≡ 64
+  pub free_missed : (x : Entry) → into_free_slot x t.slots ≡ None → free_slot image ≡ 64
   free_missed x h = free_there image t is ∙ vacancy_missed x t.slots h ∙ slots_64
 
   -- ---- changed
@@ -146,7 +146,7 @@ module _ (image : Text) (t : Table) (d : decode image ≡ some t) where
       ∙ ap (λ (b : Text). splice at partner_size b image) (sym (full_bytes e g)) ∙ replaced k h partner_size e l
 
   pub load_slot_is : (k : ℕ) (e : Entry) → k < 64 → is_empty (get_or t.slots k empty) ≡ true → is_empty e ≡ false
-      → added_slot k e image ≡ some (encode (holding t (set t.slots k e)))
+      → added_slot k e image ≡ Some (encode (holding t (set t.slots k e)))
   unfolding with_partner
   load_slot_is k e h f g =
       let at = slot_place k image in
@@ -154,15 +154,15 @@ module _ (image : Text) (t : Table) (d : decode image ≡ some t) where
       ap (λ (x : Entry). length (slot_bytes x)) (empty_there t.slots is.stored k f) ∙ vacant_size in
       let w : at + 1 ≤ length image = within k h 1 l in
       added_slot_within k image h e ∙ added_within at e image (omega arith)
-      ∙ ap {B = Option Text} some
+      ∙ ap {B = Option Text} Some
       (ap (λ (b : Text). splice at 1 b image) (sym (full_bytes e g)) ∙ replaced k h 1 e l)
 
   pub remove_slot_is : (k : ℕ) → k < 64 → is_empty (get_or t.slots k empty) ≡ false
-      → removed_slot k image ≡ some (encode (holding t (set t.slots k empty)))
+      → removed_slot k image ≡ Some (encode (holding t (set t.slots k empty)))
   unfolding without_partner
   remove_slot_is k h f =
       let at = slot_place k image in
       let l = full_size t.slots is.stored k f in
       removed_slot_within k image h ∙ removed_within at image (within k h partner_size l)
-      ∙ ap {B = Option Text} some
+      ∙ ap {B = Option Text} Some
       (ap (λ (b : Text). splice at partner_size b image) (sym vacant_record) ∙ replaced k h partner_size empty l)

@@ -1,9 +1,9 @@
 -- Where the slots of a row stand: the number of a partner's slot, of the lowest empty one, and the places of the records
 -- in the row's bytes.
+use Rattle.std.specs.Prelude.{Option, None, Some}
 use mathlib.Core.Path.{◌≡◌, refl, sym, ap, ◌∙◌}
 use mathlib.Core.Bool.{Bool, true, false, cond, not, ◌&&◌}
 use mathlib.Core.List.{List, [], ◌∷◌, ◌++◌}
-use mathlib.Core.Option.{Option, none, some}
 use Prim.Native.Nat.{ℕ, zero, suc, ◌+◌, ◌≤◌, ◌<◌}
 use native.Mathlib.Nat.{add-zero}
 use native.Mathlib.Omega.{arith}
@@ -40,7 +40,7 @@ pub record Numbered (slots : List Entry) (k : ℕ) (e : Entry) (new : Entry → 
   pub holds : get_or slots k empty ≡ e
   pub changed : (x : Entry) → set slots k x ≡ new x
 
-pub number_found : (id : Text) (e : Entry) (slots : List Entry) → find id slots ≡ some e
+pub number_found : (id : Text) (e : Entry) (slots : List Entry) → find id slots ≡ Some e
     → Numbered slots (number_of id slots) e (λ x. put id x slots)
 number_found id e [] h = absurd (let z : ◌≡◌ {A = ℕ} 0 1 = cc in omega arith)
 number_found id e (y ∷ slots) h = go (same y.identity.bytes id) h (number_found id e slots)
@@ -48,8 +48,8 @@ number_found id e (y ∷ slots) h = go (same y.identity.bytes id) h (number_foun
     n : ℕ
     n = number_of id slots
 
-    go : (b : Bool) → cond b (some y) (find id slots) ≡ some e
-        → (find id slots ≡ some e → Numbered slots n e (λ x. put id x slots))
+    go : (b : Bool) → cond b (Some y) (find id slots) ≡ Some e
+        → (find id slots ≡ Some e → Numbered slots n e (λ x. put id x slots))
         → Numbered (y ∷ slots) (cond b 0 (suc n)) e (λ x. cond b (x ∷ slots) (y ∷ put id x slots))
     go true h f = record { within = omega arith; holds = cc; changed = λ x. refl }
     go false h f =
@@ -61,26 +61,26 @@ number_found id e (y ∷ slots) h = go (same y.identity.bytes id) h (number_foun
           changed = λ x. ap (λ (l : List Entry). y ∷ l) (r.changed x);
         }
 
-pub number_missed : (id : Text) (slots : List Entry) → find id slots ≡ none → number_of id slots ≡ length slots
+pub number_missed : (id : Text) (slots : List Entry) → find id slots ≡ None → number_of id slots ≡ length slots
 number_missed id [] h = refl
 number_missed id (y ∷ slots) h = go (same y.identity.bytes id) h (number_missed id slots)
   where
     n : ℕ
     n = number_of id slots
 
-    go : (b : Bool) → cond b (some y) (find id slots) ≡ none → (find id slots ≡ none → n ≡ length slots)
+    go : (b : Bool) → cond b (Some y) (find id slots) ≡ None → (find id slots ≡ None → n ≡ length slots)
         → cond b 0 (suc n) ≡ suc (length slots)
     go true h f = absurd (let z : ◌≡◌ {A = ℕ} 0 1 = cc in omega arith)
     go false h f = ap suc (f h)
 
 -- the identity of what is found
-pub found_same : (id : Text) (e : Entry) (slots : List Entry) → find id slots ≡ some e
+pub found_same : (id : Text) (e : Entry) (slots : List Entry) → find id slots ≡ Some e
     → same e.identity.bytes id ≡ true
 found_same id e [] h = absurd (let z : ◌≡◌ {A = ℕ} 0 1 = cc in omega arith)
 found_same id e (y ∷ slots) h = go (same y.identity.bytes id) refl h (found_same id e slots)
   where
-    go : (b : Bool) → same y.identity.bytes id ≡ b → cond b (some y) (find id slots) ≡ some e
-        → (find id slots ≡ some e → same e.identity.bytes id ≡ true) → same e.identity.bytes id ≡ true
+    go : (b : Bool) → same y.identity.bytes id ≡ b → cond b (Some y) (find id slots) ≡ Some e
+        → (find id slots ≡ Some e → same e.identity.bytes id ≡ true) → same e.identity.bytes id ≡ true
     go true q h f =
         let i : y ≡ e = cc in
         ap (λ (x : Entry). same x.identity.bytes id) (sym i) ∙ q
@@ -92,18 +92,18 @@ pub record Free (x : Entry) (slots m : List Entry) (k : ℕ) : Type 0 where
   pub holds : is_empty (get_or slots k empty) ≡ true
   pub changed : set slots k x ≡ m
 
-pub vacancy_found : (x : Entry) (slots m : List Entry) → into_free_slot x slots ≡ some m → Free x slots m (vacancy slots)
+pub vacancy_found : (x : Entry) (slots m : List Entry) → into_free_slot x slots ≡ Some m → Free x slots m (vacancy slots)
 vacancy_found x [] m h = absurd (let z : ◌≡◌ {A = ℕ} 0 1 = cc in omega arith)
 vacancy_found x (y ∷ slots) m h = go (is_empty y) refl (into_free_slot x slots) h (vacancy_found x slots)
   where
     n : ℕ
     n = vacancy slots
 
-    go : (b : Bool) → is_empty y ≡ b → (o : Option (List Entry)) → cond b (some (x ∷ slots)) (behind y o) ≡ some m
-        → ((l : List Entry) → o ≡ some l → Free x slots l n) → Free x (y ∷ slots) m (cond b 0 (suc n))
+    go : (b : Bool) → is_empty y ≡ b → (o : Option (List Entry)) → cond b (Some (x ∷ slots)) (behind y o) ≡ Some m
+        → ((l : List Entry) → o ≡ Some l → Free x slots l n) → Free x (y ∷ slots) m (cond b 0 (suc n))
     go true z o h f = record { within = omega arith; holds = z; changed = cc }
-    go false z none h f = absurd (let z : ◌≡◌ {A = ℕ} 0 1 = cc in omega arith)
-    go false z (some l) h f =
+    go false z None h f = absurd (let z : ◌≡◌ {A = ℕ} 0 1 = cc in omega arith)
+    go false z (Some l) h f =
         let r = f l refl in
         let w = r.within in
         let i : y ∷ l ≡ m = cc in
@@ -113,18 +113,18 @@ vacancy_found x (y ∷ slots) m h = go (is_empty y) refl (into_free_slot x slots
           changed = ap (λ (l : List Entry). y ∷ l) r.changed ∙ i;
         }
 
-pub vacancy_missed : (x : Entry) (slots : List Entry) → into_free_slot x slots ≡ none → vacancy slots ≡ length slots
+pub vacancy_missed : (x : Entry) (slots : List Entry) → into_free_slot x slots ≡ None → vacancy slots ≡ length slots
 vacancy_missed x [] h = refl
 vacancy_missed x (y ∷ slots) h = go (is_empty y) (into_free_slot x slots) h (vacancy_missed x slots)
   where
     n : ℕ
     n = vacancy slots
 
-    go : (b : Bool) (o : Option (List Entry)) → cond b (some (x ∷ slots)) (behind y o) ≡ none
-        → (o ≡ none → n ≡ length slots) → cond b 0 (suc n) ≡ suc (length slots)
+    go : (b : Bool) (o : Option (List Entry)) → cond b (Some (x ∷ slots)) (behind y o) ≡ None
+        → (o ≡ None → n ≡ length slots) → cond b 0 (suc n) ≡ suc (length slots)
     go true o h f = absurd (let z : ◌≡◌ {A = ℕ} 0 1 = cc in omega arith)
-    go false none h f = ap suc (f refl)
-    go false (some l) h f = absurd (let z : ◌≡◌ {A = ℕ} 0 1 = cc in omega arith)
+    go false None h f = ap suc (f refl)
+    go false (Some l) h f = absurd (let z : ◌≡◌ {A = ℕ} 0 1 = cc in omega arith)
 
 -- ---- the searches over the bytes of a row
 

@@ -1,12 +1,14 @@
 -- One step of each loop over the records, and parts of an image.
+use Rattle.std.specs.Prelude.{None, Some, is_some}
+use Rattle.std.specs.Bool.{then_some}
 use mathlib.Core.Path.{◌≡◌, refl, sym, ap, ◌∙◌}
-use mathlib.Core.Bool.{Bool, true, false, cond, ◌&&◌}
+use mathlib.Core.Bool.{Bool, true, false, cond, not, ◌&&◌}
 use mathlib.Core.List.{List, [], ◌∷◌}
 use Prim.Native.Nat.{ℕ, zero, suc, ◌+◌, ◌-◌, ◌≤◌, ◌<◌, max}
 use native.Mathlib.Omega.{arith}
 use lib.Dec.{eqb, ltb, leb}
-use lib.ListN.{length, take, drop, get_or, drop_of_length-le, length-take, length-drop}
-use borrow.Author.Tests.{eq-eqb, ne_eqb, le-leb, lt-leb}
+use lib.ListN.{length, take, drop, get_or, length-take, length-drop}
+use borrow.Author.Tests.{eq-eqb, ne_eqb, le-leb, lt-leb, lt-ltb, le-ltb, ltb-true, ltb-false}
 use Rattle.octets.specs.Text.{Text, same}
 use Rattle.octets.specs.Part.{part}
 use Rattle.octets.specs.Number.{of_numbers}
@@ -14,16 +16,8 @@ use Rattle.octets.proofs.Words.{other_length}
 use Rattle.partner.specs.Record.{entry_size, entry_in}
 use Rattle.partner.specs.Legal as rule
 use Rattle.image.specs.Image.{kinds, body, record_length, partner_size, front_size}
-use Rattle.image.specs.Places.{own_in, is_partner, seek_slot, seek_free, past, entry_at}
+use Rattle.image.specs.Places.{below, own_in, is_partner, seek_slot, seek_free, past, entry_at}
 use Rattle.image.specs.Pass.{identity_at, apart_from, front_legal, record_legal}
-
--- ---- bytes and parts
-
--- behind the end nothing is left
-pub past_end : (s : Text) (at : ℕ) → length s ≤ at → drop at s ≡ drop (at + 1) s
-past_end s at h =
-    let k : length s ≤ at + 1 = omega arith in
-    drop_of_length-le s h ∙ sym (drop_of_length-le s k)
 
 -- ---- the length of a record
 
@@ -46,12 +40,42 @@ length_small kind = omega (arith, body_most kind kinds)
 
 -- ---- the searches
 
+-- a number is one of the first n, or none of them
+pub one_below : {n k m : ℕ} → m ≡ k → k < n → Some k ≡ below n m
+one_below {n} {k} {m} e h = rw (e, lt-ltb k n h)
+
+pub none_below : {n m : ℕ} → n ≤ m → None ≡ below n m
+none_below {n} {m} h = rw (le-ltb m n h)
+
+-- none of them exactly where it is the number behind them
+pub none_is : (n m : ℕ) (r : Bool) → m ≤ n → is_some (below n m) ≡ not r → r ≡ eqb m n
+none_is n m r h = go (ltb m n) refl
+  where
+    other : (r s : Bool) → s ≡ not r → r ≡ not s
+    other true s e = ap not (sym e)
+    other false s e = ap not (sym e)
+
+    go : (b : Bool) → ltb m n ≡ b → is_some (then_some b m) ≡ not r → r ≡ eqb m n
+    go true e k = let l = ltb-true m n e in other r true k ∙ sym (ne_eqb m n (λ z. omega arith))
+    go false e k = let l = ltb-false m n e in other r false k ∙ sym (eq-eqb m n (omega arith))
+
 -- by whether the kind is 2
 pub partner_there : (at : ℕ) (id s : Text) → get_or s at 0 ≡ 2 → is_partner at id s ≡ same (identity_at at s) id
 partner_there at id s h = rw (eq-eqb (get_or s at 0) 2 h)
 
 pub partner_elsewhere : (at : ℕ) (id s : Text) → (get_or s at 0 ≡ 2 → ⊥) → is_partner at id s ≡ false
 partner_elsewhere at id s h = rw (ne_eqb (get_or s at 0) 2 h)
+
+pub seek_most : (n k at : ℕ) (id s : Text) → seek_slot n k at id s ≤ k + n
+unfolding seek_slot
+seek_most zero k at id s = omega arith
+seek_most (suc n) k at id s =
+    go (is_partner at id s) (seek_slot n (k + 1) (at + record_length (get_or s at 0)) id s)
+    (seek_most n (k + 1) (at + record_length (get_or s at 0)) id s)
+  where
+    go : (b : Bool) (m : ℕ) → m ≤ k + 1 + n → cond b k m ≤ k + suc n
+    go true m h = omega arith
+    go false m h = omega arith
 
 pub seek_end : (n k at : ℕ) (id s : Text) → n ≡ 0 → seek_slot n k at id s ≡ k
 unfolding seek_slot

@@ -1,9 +1,9 @@
 -- A legal image, slot by slot: the number of a slot, where its record stands, and the image of the table with that slot
 -- changed.
+use Rattle.std.specs.Prelude.{Some}
 use mathlib.Core.Path.{◌≡◌, sym, ap, ◌∙◌}
 use mathlib.Core.Bool.{true, false}
 use mathlib.Core.List.{List, [], ◌∷◌, ◌++◌, append_assoc}
-use mathlib.Core.Option.{some}
 use Prim.Native.Nat.{ℕ, suc, ◌+◌, ◌≤◌, ◌<◌}
 use native.Mathlib.Numerals.{add-one}
 use native.Mathlib.Omega.{arith}
@@ -127,7 +127,7 @@ module _ (s : Text) (t : Table) (d : Decoded s t) where
   -- that image is read again, where the identities differ from each other and from ours
   module _ (k : ℕ) (x : Entry) (st : Stored (set t.slots k x)) where
     read_again : apart (t.own ∷ identities (set t.slots k x)) ≡ true
-        → decode (encode (holding t (set t.slots k x))) ≡ some (holding t (set t.slots k x))
+        → decode (encode (holding t (set t.slots k x))) ≡ Some (holding t (set t.slots k x))
     read_again a =
         let u : Table = holding t (set t.slots k x) in
         let w : Rules u = record {
@@ -141,7 +141,7 @@ module _ (s : Text) (t : Table) (d : Decoded s t) where
     -- an entry with the identity of its slot
     pub kept_again : is_empty (get_or t.slots k empty) ≡ false → is_empty x ≡ false
         → x.identity.bytes ≡ (get_or t.slots k empty).identity.bytes
-        → decode (encode (holding t (set t.slots k x))) ≡ some (holding t (set t.slots k x))
+        → decode (encode (holding t (set t.slots k x))) ≡ Some (holding t (set t.slots k x))
     kept_again e f i =
         read_again
         (ap (λ (l : List Text). apart (t.own ∷ l)) (identities_kept x t.slots k e f i) ∙ kept_rules.all_apart)
@@ -149,7 +149,7 @@ module _ (s : Text) (t : Table) (d : Decoded s t) where
     -- an empty slot, or an entry whose identity is new
     pub new_again : (is_empty x ≡ false → differs x.identity.bytes (identities t.slots) ≡ true)
         → (is_empty x ≡ false → same x.identity.bytes t.own ≡ false)
-        → decode (encode (holding t (set t.slots k x))) ≡ some (holding t (set t.slots k x))
+        → decode (encode (holding t (set t.slots k x))) ≡ Some (holding t (set t.slots k x))
     new_again f g =
         let b = both (differs t.own (identities t.slots)) (apart (identities t.slots)) kept_rules.all_apart in
         let p : differs t.own (identities (set t.slots k x)) ≡ true = differs_set x t.own t.slots k b.0 g in

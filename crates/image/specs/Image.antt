@@ -1,6 +1,5 @@
 -- The stored image (document 01, "Stored image"): records of one byte of kind and a body whose length the kind fixes.
-use Rattle.std.specs.Prelude.{◌≡◌, cond, ◌&&◌, List, [], ◌∷◌, ◌++◌, ℕ, zero, suc, ◌+◌, ◌*◌, eqb, take, drop, get_or}
-use Rattle.std.proofs.Math.Option.{Option, none, some}
+use Rattle.std.specs.Prelude.{◌≡◌, cond, ◌&&◌, List, [], ◌∷◌, ◌++◌, ℕ, zero, suc, ◌+◌, ◌*◌, eqb, take, drop, get_or, Option, None, Some}
 use Rattle.octets.specs.Text.{Text, same}
 use Rattle.partner.specs.declared.Entry.{Entry}
 use Rattle.partner.specs.Entry.{empty}
@@ -84,4 +83,4 @@ table_in s = record { own = take 16 (drop 1 s); slots = slots_in 64 (drop front_
 
 -- the table of an image: legal, and the image is what writing it gives, byte for byte; anything else is 13
 unfoldable pub decode : Text → Option Table
-decode s = cond (legal (table_in s) && same (encode (table_in s)) s) (some (table_in s)) none
+decode s = cond (legal (table_in s) && same (encode (table_in s)) s) (Some (table_in s)) None

@@ -1,10 +1,15 @@
 -- The number of a slot and where its record stands in an image; an image with a record changed, added or taken out, byte
 -- by byte.
-use Rattle.std.specs.Prelude.{Bool, cond, ◌&&◌, [], ◌∷◌, ◌++◌, ℕ, zero, suc, ◌+◌, eqb, take, drop, get_or}
+use Rattle.std.specs.Prelude.{Bool, cond, ◌&&◌, [], ◌∷◌, ◌++◌, ℕ, zero, suc, ◌+◌, eqb, ltb, take, drop, get_or, Option}
+use Rattle.std.specs.Bool.{then_some}
 use Rattle.octets.specs.Text.{Text, same}
 use Rattle.partner.specs.declared.Entry.{Entry}
 use Rattle.partner.specs.Record.{entry_size, entry_bytes, entry_in}
 use Rattle.image.specs.Image.{vacant, partner, record_length, front_size, partner_size}
+
+-- a number that is one of the first n
+abbrev pub below : ℕ → ℕ → Option ℕ
+below n k = then_some (ltb k n) k
 
 -- our own identity
 abbrev pub own_in : Text → Text

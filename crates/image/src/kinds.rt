@@ -1,4 +1,5 @@
 // The kinds of records, one row each: its number, and the length of its record, which is the kind's byte and the body.
+// They stay bytes: `record_length` of specs/Image has an answer for a byte that is no kind.
 ghost use Rattle.std.specs.Prelude.{◌≡◌};
 ghost use Rattle.image.specs.Image as images;
 
@@ -18,6 +19,7 @@ pub(crate) const PARTNER: u8 = 2;
 pub const PARTNER_SIZE: usize = 1 + record::SIZE;
 
 // The length of a record by its kind; of no kind only the byte.
+#[tactic(auto, unfolding(crate::specs::Image::record_length))]
 pub(crate) fn record_length(kind: u8) -> usize
     ensures { result ≡ images.record_length kind }
 {

@@ -2,8 +2,7 @@
 // image with a slot changed, filled or emptied.
 #![tactic(auto)]
 
-ghost use Rattle.std.specs.Prelude.{◌≡◌, ◌+◌, ◌*◌, ◌≤◌, length, take, drop, get_or};
-ghost use Rattle.std.proofs.Math.Option.{some};
+ghost use Rattle.std.specs.Prelude.{◌≡◌, ◌+◌, ◌*◌, ◌≤◌, length, take, drop, get_or, Some};
 ghost use Rattle.octets.specs.Part.{found};
 ghost use Rattle.octets.specs.Wrote.{Wrote};
 ghost use Rattle.partner.specs.Entry.{empty};
@@ -30,49 +29,46 @@ const SMALLEST: usize = FRONT_SIZE + SLOTS;
 pub const LARGEST: usize = FRONT_SIZE + SLOTS * PARTNER_SIZE;
 
 // Our own identity, filled with blanks.
+#[tactic(auto, unfolding(octets::specs::Part::part))]
 pub fn own_identity(image: &[u8]) -> &[u8]
     ensures { result.now ≡ places.own_in image.now }
 {
-    let own = Span { at: 1, length: 16 };
-    octets::part(image, own)
+    octets::part(image, Span { at: 1, length: 16 })
 }
 
 // ---- slots
 
-// The number of a partner's slot by its identity, filled with blanks; 64 where there is none.
-pub fn slot_of(image: &[u8], identity: &[u8; 16]) -> usize
-    ensures { result ≡ places.slot_of identity.now image.now }
+// The number of a partner's slot by its identity, filled with blanks.
+#[tactic(auto, unfolding(crate::specs::Places::slot_of))]
+pub fn slot_of(image: &[u8], identity: &[u8; 16]) -> Option<usize>
+    ensures { result ≡ places.below 64 (places.slot_of identity.now image.now) }
 {
     records::seek_named(image, identity, FRONT_SIZE, SLOTS)
 }
 
-// The number of the lowest empty slot; 64 where there is none.
-pub fn free_slot(image: &[u8]) -> usize
-    ensures { result ≡ places.free_slot image.now }
+// The number of the lowest empty slot.
+pub fn free_slot(image: &[u8]) -> Option<usize>
+    ensures { result ≡ places.below 64 (places.free_slot image.now) }
 {
     let mut at = FRONT_SIZE;
-    let mut slot = 0;
-    while slot < SLOTS {
-        let here = records::byte_at(image, at);
-        if here == kinds::VACANT {
-            return slot;
+    for slot in 0..SLOTS {
+        if records::byte_at(image, at) == kinds::VACANT {
+            return Some(slot);
         }
-        at += kinds::record_length(here);
-        slot += 1;
+        at = records::behind(image, at);
     }
-    slot
+    None
 }
 
 // Where the record of a slot stands.
 fn slot_place(image: &[u8], slot: usize) -> usize
     requires { slot ≤ 64 }
-    ensures { result ≡ places.slot_place slot image.now }
+    ensures value { result ≡ places.slot_place slot image.now }
+    ensures upper_bound { result ≤ images.largest }
 {
     let mut at = FRONT_SIZE;
-    let mut left = slot;
-    while 0 < left {
-        at += kinds::record_length(records::byte_at(image, at));
-        left -= 1;
+    for _ in 0..slot {
+        at = records::behind(image, at);
     }
     at
 }
@@ -81,12 +77,11 @@ fn slot_place(image: &[u8], slot: usize) -> usize
 pub fn slot(image: &[u8], slot: usize) -> Entry
     ensures { result ≡ get_or (images.slots_in 64 (drop images.front_size image.now)) slot empty }
 {
-    if SLOTS <= slot {
-        return partner::empty();
-    }
-    let at = slot_place(image, slot);
-    if records::byte_at(image, at) == kinds::PARTNER {
-        return records::entry_at(image, at);
+    if slot < SLOTS {
+        let at = slot_place(image, slot);
+        if records::byte_at(image, at) == kinds::PARTNER {
+            return records::entry_at(image, at);
+        }
     }
     partner::empty()
 }
@@ -98,19 +93,16 @@ fn is_apart(image: &[u8], identity: usize, from: usize, count: usize) -> bool
     requires { (identity + 16 ≤ length image.now) × (from + images.partner_size * count ≤ images.largest) }
     ensures { result ≡ pass.apart_from count from (take 16 (drop identity image.now)) image.now }
 {
-    let end = identity + 16;
-    records::seek_named(image, &image[identity..end], from, count) == count
+    records::seek_named(image, &image[identity..identity + 16], from, count).is_none()
 }
 
 // Whether the front is: kind 1, and our identity, filled, which no partner has.
 fn front_legal(image: &[u8]) -> bool
     ensures { result ≡ pass.front_legal image.now }
 {
-    if records::byte_at(image, 0) != kinds::OURS {
-        return false;
-    }
-    let own = own_identity(image);
-    rules::is_filled(own) && is_apart(image, 1, FRONT_SIZE, SLOTS)
+    records::byte_at(image, 0) == kinds::OURS
+        && rules::is_filled(own_identity(image))
+        && is_apart(image, 1, FRONT_SIZE, SLOTS)
 }
 
 // Whether the record at a place is, with `left` behind it: an empty slot, or a legal entry with an identity of its own.
@@ -144,13 +136,11 @@ pub fn legal(image: &[u8]) -> bool
         return false;
     }
     let mut at = FRONT_SIZE;
-    let mut left = SLOTS;
-    while 0 < left {
-        left -= 1;
+    for left in (0..SLOTS).rev() {
         if !record_legal(image, at, left) {
             return false;
         }
-        at += kinds::record_length(records::byte_at(image, at));
+        at = records::behind(image, at);
     }
     at == image.len()
 }
@@ -158,6 +148,7 @@ pub fn legal(image: &[u8]) -> bool
 // ---- images with a slot changed
 
 // An entry put back in its slot; nothing past the 64th.
+#[tactic(auto, unfolding(crate::specs::Results::put_slot))]
 pub fn put_slot(image: &mut [u8], slot: usize, e: Entry)
     ensures { image.new ≡ results.put_slot slot e image.old }
 {
@@ -167,24 +158,26 @@ pub fn put_slot(image: &mut [u8], slot: usize, e: Entry)
     }
 }
 
-// The image with a partner added in an empty slot, in `out`; its length, 0 past the 64th or where there is no room.
-pub fn load_slot(image: &[u8], slot: usize, e: Entry, out: &mut [u8]) -> usize
+// The image with a partner added in an empty slot, in `out`, and its length; nothing past the 64th or where there is no room.
+#[tactic(auto, unfolding(crate::specs::Results::added_slot, crate::specs::Results::delivered, crate::specs::Results::length_delivered))]
+pub fn load_slot(image: &[u8], slot: usize, e: Entry, out: &mut [u8]) -> Option<usize>
     ensures out_after { out.new ≡ results.delivered (results.added_slot slot e image.now) out.old }
-    ensures value { result ≡ results.size_delivered (results.added_slot slot e image.now) out.old }
+    ensures value { result ≡ results.length_delivered (results.added_slot slot e image.now) out.old }
 {
     if SLOTS <= slot {
-        return 0;
+        return None;
     }
     records::load_at(image, slot_place(image, slot), e, out)
 }
 
-// The image with a partner's slot emptied, in `out`; its length, 0 past the 64th or where there is no room.
-pub fn remove_slot(image: &[u8], slot: usize, out: &mut [u8]) -> usize
+// The image with a partner's slot emptied, in `out`, and its length; nothing past the 64th or where there is no room.
+#[tactic(auto, unfolding(crate::specs::Results::removed_slot, crate::specs::Results::delivered, crate::specs::Results::length_delivered))]
+pub fn remove_slot(image: &[u8], slot: usize, out: &mut [u8]) -> Option<usize>
     ensures out_after { out.new ≡ results.delivered (results.removed_slot slot image.now) out.old }
-    ensures value { result ≡ results.size_delivered (results.removed_slot slot image.now) out.old }
+    ensures value { result ≡ results.length_delivered (results.removed_slot slot image.now) out.old }
 {
     if SLOTS <= slot {
-        return 0;
+        return None;
     }
     records::remove_at(image, slot_place(image, slot), out)
 }
@@ -198,13 +191,13 @@ fn put_started(out: &mut [u8], own: Name) -> usize
     b + octets::fill(&mut out[b..], SLOTS, kinds::VACANT)
 }
 
-// The image of a table with our identity and 64 empty slots, in `out`; its length, 0 where there is no room for it.
-pub fn start(own: Name, out: &mut [u8]) -> usize
-    ensures out_after { out.new ≡ results.delivered (some (images.encode (tables.started own))) out.old }
-    ensures value { result ≡ results.size_delivered (some (images.encode (tables.started own))) out.old }
+// The image of a table with our identity and 64 empty slots, in `out`, and its length; nothing where there is no room for it.
+pub fn start(own: Name, out: &mut [u8]) -> Option<usize>
+    ensures out_after { out.new ≡ results.delivered (Some (images.encode (tables.started own))) out.old }
+    ensures value { result ≡ results.length_delivered (Some (images.encode (tables.started own))) out.old }
 {
     if out.len() < SMALLEST {
-        return 0;
+        return None;
     }
-    put_started(out, own)
+    Some(put_started(out, own))
 }

@@ -2,7 +2,7 @@
 use mathlib.Core.Path.{◌≡◌, refl, sym, ap, ◌∙◌}
 use mathlib.Core.Bool.{true}
 use mathlib.Core.List.{[], ◌∷◌, ◌++◌, map}
-use Prim.Native.Nat.{ℕ, zero, suc, ◌+◌, ◌*◌, ◌%◌, ◌^◌, ◌<◌}
+use Prim.Native.Nat.{ℕ, zero, suc, ◌+◌, ◌*◌, ◌%◌, ◌^◌}
 use native.Mathlib.Numerals.{add-one}
 use native.Mathlib.Omega.{arith}
 use lib.Dec.{ltb}
@@ -11,7 +11,7 @@ use borrow.Author.Tests.{lt-ltb, ltb-true}
 use Rattle.octets.specs.Text.{Text, all}
 use Rattle.octets.specs.Part.{all_octets}
 use Rattle.octets.specs.Number.{number_after, number}
-use Rattle.octets.proofs.Comparing.{both, all_append}
+use Rattle.octets.proofs.Comparing.{both}
 use Rattle.octets.proofs.Numbers.{number_append, number_fits}
 use Rattle.keying.specs.Working.{characters}
 
@@ -40,13 +40,6 @@ none_to_repeat at (x ∷ w) e = absurd (omega arith)
 length_characters : (n at : ℕ) (w : Text) → length (characters n at w) ≡ n
 length_characters zero at w = refl
 length_characters (suc n) at w = ap suc (length_characters n (at + 1) w)
-
-pub octets_next : (i at : ℕ) (w : Text) → all_octets (characters i at w) ≡ true → get_or w ((at + i) % length w) 0 < 256
-    → all_octets (characters (i + 1) at w) ≡ true
-octets_next i at w e h =
-    let c = get_or w ((at + i) % length w) 0 ∷ [] in
-    rw (add-one i)
-    (ap all_octets (next i at w) ∙ all_append (λ b. ltb b 256) (characters i at w) c ∙ rw (e, lt-ltb _ 256 h))
 
 pub eight_fit : (at : ℕ) (w : Text) → all_octets (characters 8 at w) ≡ true
     → number (characters 8 at w) % 2 ^ 64 ≡ number (characters 8 at w)

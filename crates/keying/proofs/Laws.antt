@@ -1,64 +1,35 @@
 -- Unsealing undoes sealing and the other way round, single or pair; so it is with an IV's value; a MAC has 32 bits.
-use mathlib.Core.Path.{◌≡◌, sym, ap, ◌∙◌}
+use mathlib.Core.Path.{◌≡◌, refl, ap, ◌∙◌}
 use mathlib.Core.Bool.{Bool, true, false, cond, not}
-use mathlib.Core.List.{List, [], ◌∷◌, reverse}
+use mathlib.Core.List.{List, [], ◌∷◌}
 use Prim.Native.Nat.{ℕ, ◌/◌, ◌^◌, ◌<◌}
 use native.Mathlib.Omega.{arith}
 use lib.Bits.{bit_xor}
-use lib.ListN.{get_or}
 use Rattle.octets.specs.Text.{Text}
 use Rattle.dea.specs.Dea.{schedule, cipher, encipher, decipher}
 use Rattle.dea.specs.Chain.{chain, chained, blocks_of}
 use Rattle.dea.proofs.Laws.{decipher_encipher, encipher_decipher, cipher_lt, encipher_lt, decipher_lt}
 use Rattle.keying.specs.declared.Top.{Top}
 use Rattle.keying.specs.declared.Top.TheVariants.{Single, Pair}
-use Rattle.keying.specs.declared.Blocks.{Blocks}
-use Rattle.keying.specs.Keys.{halves, seal, unseal, way, each}
+use Rattle.keying.specs.Keys.{seal, unseal, order}
 use Rattle.keying.specs.Working.{working}
 use Rattle.keying.specs.Mac.{mac}
 use Rattle.keying.specs.Iv.{last_key, conceal, reveal}
 use Rattle.keying.specs.Claims.{Claims}
 use Rattle.keying.proofs.Characters.{one_bit_left}
 
--- f of one block, and of two
-pub one_block : (f : ℕ → ℕ) (b : Blocks) {x : ℕ} → x ≡ f b.first → b.two ≡ false
-    → record { first = x; second = 0; two = false } ≡ each f b
-unfolding each
-one_block f b p t = λ j. record { first = p j; second = cond (sym t j) (f b.second) 0; two = sym t j }
-
-pub two_blocks : (f : ℕ → ℕ) (b : Blocks) {x y : ℕ} → x ≡ f b.first → y ≡ f b.second → b.two ≡ true
-    → record { first = x; second = y; two = true } ≡ each f b
-unfolding each
-two_blocks f b p q t = λ j. record { first = p j; second = cond (sym t j) (q j) 0; two = sym t j }
-
--- the first of what f made, and the second where there are two
-pub first_made : (f : ℕ → ℕ) (b : Blocks) {r : Blocks} → r ≡ each f b → r.first ≡ f b.first
-unfolding each
-first_made f b e = ap (λ (x : Blocks). x.first) e
-
-pub second_made : (f : ℕ → ℕ) (b : Blocks) {r : Blocks} → r ≡ each f b → b.two ≡ true → r.second ≡ f b.second
-unfolding each
-second_made f b e t = ap (λ (x : Blocks). x.second) e ∙ ap (λ (two : Bool). cond two (f b.second) 0) t
-
--- the schedule of the left half, by the form of the key
-half : {t u : Top} {l : List ℕ} → l ≡ schedule (get_or (halves t) 0 0) → t ≡ u → l ≡ schedule (get_or (halves u) 0 0)
-half k e = k ∙ ap (λ (v : Top). schedule (get_or (halves v) 0 0)) e
-
--- a block under a single key and under a pair, each by its schedules
-pub single_way : (back : Bool) (key x : ℕ) {l : List ℕ} {t : Top} {y : ℕ} → l ≡ schedule (get_or (halves t) 0 0)
-    → t ≡ Single key → y ≡ way back l x → y ≡ cond back (unseal t) (seal t) x
+-- under a single key and under a pair, each half by its schedule in its order
+pub single_way : (back : Bool) (key : ℕ) → cipher (order back (schedule key)) ≡ cond back (unseal (Single key)) (seal (Single key))
 unfolding seal unseal encipher decipher
-single_way true key x k t e = rw t (e ∙ ap (λ (l : List ℕ). cipher (reverse l) x) (half k t))
-single_way false key x k t e = rw t (e ∙ ap (λ (l : List ℕ). cipher l x) (half k t))
+single_way true key = refl
+single_way false key = refl
 
-pub pair_way : (back : Bool) (left right x : ℕ) {l r : List ℕ} {t : Top} {y : ℕ} → l ≡ schedule (get_or (halves t) 0 0)
-    → r ≡ schedule right → t ≡ Pair left right → y ≡ way back l (way (not back) r (way back l x))
-    → y ≡ cond back (unseal t) (seal t) x
+pub pair_way : (back : Bool) (left right : ℕ)
+    → (λ x. cipher (order back (schedule left)) (cipher (order (not back) (schedule right)) (cipher (order back (schedule left)) x)))
+    ≡ cond back (unseal (Pair left right)) (seal (Pair left right))
 unfolding seal unseal encipher decipher
-pair_way true left right x k q t e =
-    rw t (e ∙ (λ j. cipher (reverse (half k t j)) (cipher (q j) (cipher (reverse (half k t j)) x))))
-pair_way false left right x k q t e =
-    rw t (e ∙ (λ j. cipher (half k t j) (cipher (reverse (q j)) (cipher (half k t j) x))))
+pair_way true left right = refl
+pair_way false left right = refl
 
 pub unseal_seal : (key : Top) (x : ℕ) → x < 2 ^ 64 → unseal key (seal key x) ≡ x
 unfolding unseal seal

@@ -1,7 +1,7 @@
 -- Top keys, and data keys enciphered under a working key.
-use Rattle.std.specs.Prelude.{Bool, cond, List, [], ◌∷◌, reverse, ℕ}
+use Rattle.std.specs.Prelude.{Bool, cond, List, [], ◌∷◌, reverse, ℕ, option_map}
 use Rattle.octets.specs.Text.{all}
-use Rattle.dea.specs.Dea.{cipher, encipher, decipher}
+use Rattle.dea.specs.Dea.{encipher, decipher}
 use Rattle.keying.specs.declared.Top.{Top}
 use Rattle.keying.specs.declared.Top.TheVariants.{Single, Pair}
 use Rattle.keying.specs.declared.Blocks.{Blocks}
@@ -28,17 +28,13 @@ unfoldable pub unseal : Top → ℕ → ℕ
 unseal (Single key) sealed = decipher key sealed
 unseal (Pair left right) sealed = decipher left (encipher right (decipher left sealed))
 
--- the cipher under a schedule, K1 first or, back, K16 first
-abbrev pub way : Bool → List ℕ → ℕ → ℕ
-way back ks = cond back (cipher (reverse ks)) (cipher ks)
+-- a schedule, K1 first or, back, K16 first
+abbrev pub order : Bool → List ℕ → List ℕ
+order back ks = cond back (reverse ks) ks
 
--- what f makes of one data key or of each of two; without a second its place is zero
+-- what f makes of one data key or of each of two
 unfoldable pub each : (ℕ → ℕ) → Blocks → Blocks
-each f blocks = record {
-  first = f blocks.first;
-  second = cond blocks.two (f blocks.second) 0;
-  two = blocks.two;
-}
+each f blocks = record { first = f blocks.first; second = option_map f blocks.second }
 
 -- the data keys of a message or of an entry, first and second
 abbrev pub listed : DataKeys → List ℕ

@@ -17,10 +17,9 @@ pub enum DataKeys {
     Two(u64, u64),
 }
 
-// One data key or two, in clear or under a working key; without a second its place is zero.
+// One data key or two, in clear or under a working key.
 #[derive(Clone, Copy)]
 pub struct Blocks {
     pub first: u64,
-    pub second: u64,
-    pub two: bool,
+    pub second: Option<u64>,
 }

@@ -1,10 +1,10 @@
 -- What any call of a card does to its entry for the other card: nothing, and what is written goes elsewhere; or an
 -- event; or that entry is loaded.
+use Rattle.std.specs.Prelude.{None, Some}
 use mathlib.Core.Path.{◌≡◌, refl, sym, ap, ◌∙◌, subst}
 use mathlib.Core.Bool.{true, false, not}
 use mathlib.Core.List.{List, []}
 use mathlib.Core.Logic.{◌≢◌}
-use mathlib.Core.Option.{none, some}
 use Prim.Native.Nat.{ℕ}
 use lib.Dec.{eqb}
 use borrow.Author.Tests.{not-true}
@@ -44,11 +44,11 @@ pub data Local (name : Text) (top : Top) (us other : Text) (l : List Text) (t : 
     : Type 0 where
   elsewhere : entry_of other y.table ≡ entry_of other t
       → ((x : Text) → x ∈ texts y.outcome.reply → Away us other x) → k ≡ [] → Local name top us other l t y k
-  here : (e : Entry) (x : Turn) → entry_of other t ≡ some e → entry.legal e ≡ true
+  here : (e : Entry) (x : Turn) → entry_of other t ≡ Some e → entry.legal e ≡ true
       → partner e ≡ other → is_name us ≡ true → Event us e (λ u. u ∈ l) x k
-      → entry_of other y.table ≡ some x.entry → y.outcome.reply ≡ x.outcome.reply
+      → entry_of other y.table ≡ Some x.entry → y.outcome.reply ≡ x.outcome.reply
       → Local name top us other l t y k
-  loads : entry_of other t ≡ none → entry_of other y.table ≡ some (entry_for name top other)
+  loads : entry_of other t ≡ None → entry_of other y.table ≡ Some (entry_for name top other)
       → y.outcome.reply ≡ [] → k ≡ [] → Local name top us other l t y k
 
 -- a call that is refused accepts no count
@@ -82,7 +82,7 @@ module _ (name : Text) (top : Top) (us other : Text) (l : List Text) (t : Table)
         (λ q. entry_unnamed other (holding t m) q ∙ sym (entry_unnamed other t q))
 
     -- a turn of one partner's entry
-    pub entry_local : (c : Call) (id : Text) (e : Entry) (x : Turn) (k : List ℕ) → entry_of id t ≡ some e
+    pub entry_local : (c : Call) (id : Text) (e : Entry) (x : Turn) (k : List ℕ) → entry_of id t ≡ Some e
         → (entry.legal e ≡ true → partner e ≡ id → Event us e (λ u. id ≡ other → u ∈ l) x k)
         → (id ≡ other → counted other c x.outcome.answer ≡ k)
         → (id ≢ other → counted other c x.outcome.answer ≡ [])
@@ -95,9 +95,9 @@ module _ (name : Text) (top : Top) (us other : Text) (l : List Text) (t : Table)
         by_test (same id other)
         (λ q.
         let io : id ≡ other = same_equal id other q in
-        here e x (subst (λ (w : Text). entry_of w t ≡ some e) io h) lawful (n.bare_identity ∙ io) us_named
+        here e x (subst (λ (w : Text). entry_of w t ≡ Some e) io h) lawful (n.bare_identity ∙ io) us_named
         (subst (Event us e (λ u. u ∈ l) x) (sym (same_count io)) (event_as (λ u g. g io) v))
-        (subst (λ (w : Text). entry_of w after ≡ some x.entry) io
+        (subst (λ (w : Text). entry_of w after ≡ Some x.entry) io
         (turned_after t id e x.entry n (event_keeps v).0)) refl)
         (λ q.
         let away : id ≢ other = same_differs id other q in

@@ -1,8 +1,8 @@
 -- The card's two ends as the theorem sees them: texts by their readings, units by their fields.
+use Rattle.std.specs.Prelude.{Option, None, Some}
 use mathlib.Core.Path.{◌≡◌, refl, ◌∙◌}
 use mathlib.Core.Bool.{true, false}
 use mathlib.Core.Logic.{◌≢◌}
-use mathlib.Core.Option.{Option, none, some}
 use Prim.Native.Nat.{ℕ, ◌<◌}
 use native.Mathlib.Omega.{arith}
 use Rattle.octets.specs.Text.{Text, same, is_name}
@@ -54,7 +54,7 @@ brought_alike own e f m p h = λ j.
       key = unseal (working m.nos (p j) own (h j) m.ctp) k.key;
       name = name_of (named k.idk1);
     } in
-    elim m.second [ none ↦ one_key (key m.kd) | some k ↦ two_keys (key m.kd) (key k) ]
+    elim m.second [ None ↦ one_key (key m.kd) | Some k ↦ two_keys (key m.kd) (key k) ]
 
 -- ---- A under the identity a, B under b
 
@@ -71,8 +71,8 @@ module _ (a b name : Text) (top : Top) where
   carried_in (option c w) = no_key_message
 
   unfoldable pub carried_by : Option Reading → Carried KeySet
-  carried_by none = no_key_message
-  carried_by (some r) =
+  carried_by None = no_key_message
+  carried_by (Some r) =
       in_case same r.rcv b then (in_case same r.org a then carried_in r.body else no_key_message) else no_key_message
 
   unfoldable pub called_by : Carried KeySet → Answer
@@ -87,8 +87,8 @@ module _ (a b name : Text) (top : Top) where
   answer_in (option c w) = no_answer
 
   unfoldable pub answer_by : Option Reading → Answer
-  answer_by none = no_answer
-  answer_by (some r) =
+  answer_by None = no_answer
+  answer_by (Some r) =
       in_case same r.rcv a then (in_case same r.org b then answer_in r.body else no_answer) else no_answer
 
   -- a key message of A's to B that a request made
@@ -127,21 +127,21 @@ module _ (a b name : Text) (top : Top) where
 
   -- ---- texts by their readings
 
-  pub carried_at : (body : Body) → carried_by (some (record { rcv = b; org = a; body = body })) ≡ carried_in body
+  pub carried_at : (body : Body) → carried_by (Some (record { rcv = b; org = a; body = body })) ≡ carried_in body
   unfolding carried_by in_case◌then◌else◌
   carried_at body = rw (same_refl b, same_refl a)
 
-  pub answer_at : (body : Body) → answer_by (some (record { rcv = a; org = b; body = body })) ≡ answer_in body
+  pub answer_at : (body : Body) → answer_by (Some (record { rcv = a; org = b; body = body })) ≡ answer_in body
   unfolding answer_by in_case◌then◌else◌
   answer_at body = rw (same_refl a, same_refl b)
 
   pub carried_away : (to org : Text) (body : Body) → to ≢ b
-      → carried_by (some (record { rcv = to; org = org; body = body })) ≡ no_key_message
+      → carried_by (Some (record { rcv = to; org = org; body = body })) ≡ no_key_message
   unfolding carried_by in_case◌then◌else◌
   carried_away to org body h = rw (differs_same to b h)
 
   pub answer_away : (to org : Text) (body : Body) → to ≢ a
-      → answer_by (some (record { rcv = to; org = org; body = body })) ≡ no_answer
+      → answer_by (Some (record { rcv = to; org = org; body = body })) ≡ no_answer
   unfolding answer_by in_case◌then◌else◌
   answer_away to org body h = rw (differs_same to a h)
 
@@ -158,7 +158,7 @@ module _ (a b name : Text) (top : Top) where
   -- a text that carries a key message is read as one
   pub record ReadAs (t : Text) (n : ℕ) (k : KeySet) : Type 0 where
     pub message : Ksm
-    pub reading : read t ≡ some (record { rcv = b; org = a; body = ksm message })
+    pub reading : read t ≡ Some (record { rcv = b; org = a; body = ksm message })
     pub count : message.ctp ≡ n
     pub keys : brought b (entry_for name top a) message ≡ k
 
@@ -175,11 +175,11 @@ module _ (a b name : Text) (top : Top) where
       contra : {A : Type 0} → no_key_message ≡ key_message n k → A
       contra e = absurd (let z : ◌≡◌ {A = ℕ} 0 1 = cc in omega arith)
 
-      by_body : (r : Reading) (body : Body) → r.body ≡ body → read t ≡ some r → r.rcv ≡ b → r.org ≡ a
+      by_body : (r : Reading) (body : Body) → r.body ≡ body → read t ≡ Some r → r.rcv ≡ b → r.org ≡ a
           → carried_in body ≡ key_message n k → ReadAs t n k
       by_body r (ksm m) p q u v e = record {
         message = m;
-        reading = q ∙ (λ j. some (record { rcv = u j; org = v j; body = p j }));
+        reading = q ∙ (λ j. Some (record { rcv = u j; org = v j; body = p j }));
         count = cc;
         keys = cc;
       }

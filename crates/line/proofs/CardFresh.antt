@@ -1,9 +1,9 @@
 -- A card that was started, or that was just loaded for the other, is fresh; one that has the other is not loaded again.
+use Rattle.std.specs.Prelude.{None, Some}
 use mathlib.Core.Path.{◌≡◌, refl, sym, ◌∙◌, subst}
 use mathlib.Core.Bool.{true}
 use mathlib.Core.List.{List}
 use mathlib.Core.Logic.{◌≢◌, inl, inr}
-use mathlib.Core.Option.{none, some}
 use Prim.Native.Nat.{ℕ, zero, suc}
 use native.Mathlib.Omega.{arith}
 use Rattle.octets.specs.Text.{Text, is_name}
@@ -27,7 +27,7 @@ use Rattle.line.proofs.CardSlots.{entry_named, entry_unnamed}
 use Rattle.line.proofs.CardRun.{Loads, loads_one}
 
 -- nobody is in empty slots
-find_empties : (id : Text) → is_filled id ≡ true → (n : ℕ) → find id (empties n) ≡ none
+find_empties : (id : Text) → is_filled id ≡ true → (n : ℕ) → find id (empties n) ≡ None
 unfolding empties
 find_empties id h zero = refl
 find_empties id h (suc n) = rw (empty_nobody empty id empty_is h) (find_empties id h n)
@@ -35,11 +35,11 @@ find_empties id h (suc n) = rw (empty_nobody empty id empty_is h) (find_empties 
 abbrev table_of : Text → Table
 table_of own = record { own = filled own; slots = empties 64 }
 
-pub started : (name : Text) (top : Top) (own other : Text) (t : Table) → start own ≡ some t → Fresh name top own other t
+pub started : (name : Text) (top : Top) (own other : Text) (t : Table) → start own ≡ Some t → Fresh name top own other t
 unfolding start in_case◌then◌else◌
 started name top own other t h =
     by_test (is_name own)
-    (λ q. let p : some (table_of own) ≡ some t = rw q at h in
+    (λ q. let p : Some (table_of own) ≡ Some t = rw q at h in
     subst (λ (x : Table). Fresh name top own other x) (some_inj p)
     (record {
       identity = bare_filled own q;
@@ -47,7 +47,7 @@ started name top own other t h =
     }))
     (λ q. absurd (none_some t (rw q at h)))
   where
-    vacant : is_name other ≡ true → entry_of other (table_of own) ≡ none
+    vacant : is_name other ≡ true → entry_of other (table_of own) ≡ None
     vacant q = entry_named other (table_of own) q ∙ find_empties (filled other) (filled_filled other q) 64
 
 -- a load that is done
@@ -68,8 +68,8 @@ just_loaded name top own other t ours done =
     (record { identity = ours; entry = inr d.2.present })
 
 -- who is in the table is not loaded
-pub loaded_once : (other key_name : Text) (key : Top) (t : Table) (e : Entry) → entry_of other t ≡ some e
+pub loaded_once : (other key_name : Text) (key : Top) (t : Table) (e : Entry) → entry_of other t ≡ Some e
     → (run t (load other key_name key)).outcome.answer ≢ 0
 loaded_once other key_name key t e there done =
-    let n : entry_of other t ≡ none = (load_done other key_name key t done).2.absent in
+    let n : entry_of other t ≡ None = (load_done other key_name key t done).2.absent in
     let z : ◌≡◌ {A = ℕ} 0 1 = cc in omega arith

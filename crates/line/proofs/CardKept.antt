@@ -1,8 +1,8 @@
 -- What holds of each card along a run, and the laws of the interface between it and the theorem.
+use Rattle.std.specs.Prelude.{Option, None, Some}
 use mathlib.Core.Path.{◌≡◌, refl, sym, ap, ◌∙◌}
 use mathlib.Core.List.{List}
 use mathlib.Core.Logic.{◌⊎◌, inl, inr, ⊎_elim}
-use mathlib.Core.Option.{Option, none, some}
 use Prim.Native.Nat.{ℕ}
 use native.Mathlib.Omega.{arith}
 use Rattle.octets.specs.Text.{Text}
@@ -28,15 +28,15 @@ module _ (name : Text) (top : Top) where
   -- its entry for the other has the one key under the one name
   pub record Known (other : Text) (t : Table) : Type 0 where
     pub entry : Entry
-    pub there : entry_of other t ≡ some entry
+    pub there : entry_of other t ≡ Some entry
     pub key : top_of entry.top ≡ top
     pub named : entry.top.name ≡ name_of name
 
   pub record Good (own other : Text) (t : Table) : Type 0 where
     pub identity : bare t.own ≡ own
-    pub entry : (entry_of other t ≡ none) ⊎ Known other t
+    pub entry : (entry_of other t ≡ None) ⊎ Known other t
 
-  known_loaded : (other : Text) (t : Table) → entry_of other t ≡ some (entry_for name top other) → Known other t
+  known_loaded : (other : Text) (t : Table) → entry_of other t ≡ Some (entry_for name top other) → Known other t
   unfolding loaded
   known_loaded other t h =
       record { entry = entry_for name top other; there = h; key = top_loaded other name top; named = refl }
@@ -44,16 +44,16 @@ module _ (name : Text) (top : Top) where
   pub good_fresh : (own other : Text) (t : Table) → Fresh name top own other t → Good own other t
   good_fresh own other t f = record {
     identity = f.identity;
-    entry = ⊎_elim (λ (h : entry_of other t ≡ none). inl h)
-        (λ (h : entry_of other t ≡ some (entry_for name top other)). inr (known_loaded other t h)) f.entry;
+    entry = ⊎_elim (λ (h : entry_of other t ≡ None). inl h)
+        (λ (h : entry_of other t ≡ Some (entry_for name top other)). inr (known_loaded other t h)) f.entry;
   }
 
   known_stays : (other : Text) (t u : Table) → entry_of other u ≡ entry_of other t → Known other t → Known other u
   known_stays other t u h k = record { entry = k.entry; there = h ∙ k.there; key = k.key; named = k.named }
 
   -- the entry that is found is the one that is known
-  pub known_is : (other : Text) (t : Table) (e : Entry) → entry_of other t ≡ some e
-      → (entry_of other t ≡ none) ⊎ Known other t → (top_of e.top ≡ top) × (e.top.name ≡ name_of name)
+  pub known_is : (other : Text) (t : Table) (e : Entry) → entry_of other t ≡ Some e
+      → (entry_of other t ≡ None) ⊎ Known other t → (top_of e.top ≡ top) × (e.top.name ≡ name_of name)
   known_is other t e h (inl n) = absurd (let z : ◌≡◌ {A = ℕ} 0 1 = cc in omega arith)
   known_is other t e h (inr k) =
       let p : k.entry ≡ e = cc (h, k.there) in
@@ -67,9 +67,9 @@ module _ (name : Text) (top : Top) where
   }
     where
       go : {k : List ℕ} → Local name top own other l t (run t c) k
-          → (entry_of other (run t c).table ≡ none) ⊎ Known other (run t c).table
+          → (entry_of other (run t c).table ≡ None) ⊎ Known other (run t c).table
       go (elsewhere kept away mute) =
-          ⊎_elim (λ (h : entry_of other t ≡ none). inl (kept ∙ h))
+          ⊎_elim (λ (h : entry_of other t ≡ None). inl (kept ∙ h))
           (λ (h : Known other t). inr (known_stays other t (run t c).table kept h)) g.entry
       go (here e x found lawful them named ev now reply) =
           let k = known_is other t e found g.entry in
@@ -83,12 +83,12 @@ module _ (name : Text) (top : Top) where
 
   -- the other's entry stays in the table
   pub there_still : (other : Text) (l : List Text) (t : Table) (c : Call)
-      → Allowed name top other l c (run t c).outcome.answer → (e : Entry) → entry_of other t ≡ some e
-      → (f : Entry) × (entry_of other (run t c).table ≡ some f)
+      → Allowed name top other l c (run t c).outcome.answer → (e : Entry) → entry_of other t ≡ Some e
+      → (f : Entry) × (entry_of other (run t c).table ≡ Some f)
   there_still other l t c may e h = go (run_local name top (bare t.own) other l t c refl may)
     where
       go : {k : List ℕ} → Local name top (bare t.own) other l t (run t c) k
-          → (f : Entry) × (entry_of other (run t c).table ≡ some f)
+          → (f : Entry) × (entry_of other (run t c).table ≡ Some f)
       go (elsewhere kept away mute) = (e, kept ∙ h)
       go (here f x found lawful them named ev now reply) = (x.entry, now)
       go (loads absent now reply mute) = (entry_for name top other, now)
@@ -96,8 +96,8 @@ module _ (name : Text) (top : Top) where
   -- ---- the entry for the other, as loading makes it where there is none
 
   unfoldable pub seen : Text → Option Entry → Entry
-  seen other none = entry_for name top other
-  seen other (some e) = e
+  seen other None = entry_for name top other
+  seen other (Some e) = e
 
   abbrev pub see : Text → Table → Entry
   see other t = seen other (entry_of other t)

@@ -1,8 +1,8 @@
 -- The interface's laws, of the card: what any call does at A's end and at B's.
+use Rattle.std.specs.Prelude.{Some}
 use mathlib.Core.Path.{◌≡◌, refl, sym, ap, ◌∙◌, subst}
 use mathlib.Core.Bool.{true}
 use mathlib.Core.List.{List, [], ◌∷◌}
-use mathlib.Core.Option.{some}
 use Prim.Native.Nat.{ℕ}
 use native.Mathlib.Numerals.{add-one}
 use native.Mathlib.Omega.{arith}
@@ -35,7 +35,7 @@ use Rattle.line.proofs.CardEnds.{carried_in, called_by, answer_in, ends, carried
 use Rattle.line.proofs.CardEnds.{carried_by, answer_by, carried_plain, answer_plain}
 
 -- a text that is read is some text
-pub texts_read : (reply : Text) (r : Reading) → read reply ≡ some r → texts reply ≡ reply ∷ []
+pub texts_read : (reply : Text) (r : Reading) → read reply ≡ Some r → texts reply ≡ reply ∷ []
 unfolding texts read
 texts_read [] r h = absurd (let z : ◌≡◌ {A = ℕ} 0 1 = cc in omega arith)
 texts_read (x ∷ w) r h = refl

@@ -1,8 +1,8 @@
 -- Every call of a card is local to one partner's entry.
+use Rattle.std.specs.Prelude.{None, Some}
 use mathlib.Core.Path.{◌≡◌, refl, ◌∙◌, subst}
 use mathlib.Core.Bool.{true, not}
 use mathlib.Core.List.{List, [], ◌∷◌}
-use mathlib.Core.Option.{none, some}
 use lib.Dec.{eqb}
 use Rattle.octets.specs.Text.{Text, same, is_name}
 use Rattle.octets.specs.Part.{bare}
@@ -34,13 +34,13 @@ use Rattle.line.proofs.CardCall.{entry_local}
 
 -- a partner that was loaded was not there, and is there as loading makes it
 pub record Loads (id key_name : Text) (key : Top) (t : Table) (m : List Entry) : Type 0 where
-  pub absent : entry_of id t ≡ none
-  pub present : entry_of id (holding t m) ≡ some (loaded (name_of id) (name_of key_name) key)
+  pub absent : entry_of id t ≡ None
+  pub present : entry_of id (holding t m) ≡ Some (loaded (name_of id) (name_of key_name) key)
   pub others : Slotwise (filled id) t.slots m
 
 pub loads_one : (id key_name : Text) (key : Top) (t : Table) (m : List Entry) → is_name id ≡ true
     → differs (filled id) (t.own ∷ identities t.slots) ≡ true
-    → into_free_slot (loaded (name_of id) (name_of key_name) key) t.slots ≡ some m → Loads id key_name key t m
+    → into_free_slot (loaded (name_of id) (name_of key_name) key) t.slots ≡ Some m → Loads id key_name key t m
 unfolding loaded
 loads_one id key_name key t m named free h =
     let others = (and_true (not (same t.own (filled id))) (differs (filled id) (identities t.slots)) free).1 in
@@ -100,7 +100,7 @@ module _ (name : Text) (top : Top) (us other : Text) (l : List Text) (t : Table)
       (λ q.
       let io : id ≡ other = same_equal id other q in
       let k = may refl io in
-      loads (subst (λ (w : Text). entry_of w t ≡ none) io f.absent)
+      loads (subst (λ (w : Text). entry_of w t ≡ None) io f.absent)
       (rw (k.0, k.1, io) at f.present) refl refl)
       (λ q.
       elsewhere (other_stays name top us other l t ours fine id m named (same_differs id other q) f.others)

@@ -1,9 +1,9 @@
 -- All that a call does to one partner's entry: six events.
+use Rattle.std.specs.Prelude.{None}
 use mathlib.Core.Path.{◌≡◌, refl}
 use mathlib.Core.Bool.{true, false}
 use mathlib.Core.List.Memᴰ
 use mathlib.Core.List.{List, [], ◌∷◌}
-use mathlib.Core.Option.{none}
 use Prim.Native.Nat.{ℕ, ◌≤◌, ◌<◌, max}
 use native.Mathlib.Omega.{arith}
 use lib.Dec.{eqb}
@@ -111,7 +111,7 @@ module _ (us : Text) (e : Entry) (Heard : Text → Type 0) (named : is_name us �
   build_rsi_event contents =
       by_part (value svr contents) (λ q. rw (q, build_rsi) (silent _ refl)) (λ s q.
       rw (q, build_rsi) (speaks _ _ (service _)
-      (to_them us e named lawful (rsi (record { svr = s; edc = none })) refl (rw (svr_legal contents s q)))))
+      (to_them us e named lawful (rsi (record { svr = s; edc = None })) refl (rw (svr_legal contents s q)))))
 
 -- ---- what every event keeps of an entry, and to whom it writes
 

@@ -1,9 +1,9 @@
 -- The theorem about two cards on a bad line: `claims` proves the demand of specs/Line.antt.
+use Rattle.std.specs.Prelude.{Option, None, Some}
 use mathlib.Core.Path.{◌≡◌, refl, sym, ap, ◌∙◌, subst}
 use mathlib.Core.List.Memᴰ
 use mathlib.Core.List.{List, ◌++◌}
 use mathlib.Core.Logic.{◌⊎◌, ◌≢◌, ⊎_elim}
-use mathlib.Core.Option.{Option, none, some}
 use Prim.Native.Nat.{ℕ, suc, ◌+◌, ◌≤◌}
 use native.Mathlib.Omega.{arith}
 use Rattle.octets.specs.Text.{Text}
@@ -52,12 +52,12 @@ module _ (a b name : Text) (top : Top) where
 
   -- a text that calls for an answer with this MAC is a key message
   calls_as : (t : Text) (m : ℕ) → called_by a b name top (carried_by a b name top (read t)) ≡ answer m
-      → (k : Ksm) × (read t ≡ some (a_to_b a b name top (ksm k))) × (called_for a b name top k ≡ m)
+      → (k : Ksm) × (read t ≡ Some (a_to_b a b name top (ksm k))) × (called_for a b name top k ≡ m)
   unfolding called_by called_for
   calls_as t m h = go (carried_by a b name top (read t)) refl h
     where
       go : (c : Carried KeySet) → carried_by a b name top (read t) ≡ c → called_by a b name top c ≡ answer m
-          → (k : Ksm) × (read t ≡ some (a_to_b a b name top (ksm k))) × (called_for a b name top k ≡ m)
+          → (k : Ksm) × (read t ≡ Some (a_to_b a b name top (ksm k))) × (called_for a b name top k ≡ m)
       go (key_message n set) q e =
           let r : ReadAs a b name top t n set = read_as a b name top t n set q in
           let f : mac_under a b name top set ≡ m = cc in
@@ -79,11 +79,11 @@ module _ (a b name : Text) (top : Top) where
 
   -- ---- the beginning
 
-  fresh_idle : (other : Text) (o : Option Entry) → (o ≡ none) ⊎ (o ≡ some (entry_for name top other))
+  fresh_idle : (other : Text) (o : Option Entry) → (o ≡ None) ⊎ (o ≡ Some (entry_for name top other))
       → seen name top other o ≡ entry_for name top other
   unfolding seen
   fresh_idle other o h =
-      ⊎_elim (λ (p : o ≡ none). rw p) (λ (p : o ≡ some (entry_for name top other)). rw p) h
+      ⊎_elim (λ (p : o ≡ None). rw p) (λ (p : o ≡ Some (entry_for name top other)). rw p) h
 
   beginning : (s : State) → Afresh a b name top s → CoreEnds.Begins (E a b name top) (view s)
   unfolding loaded
@@ -138,21 +138,21 @@ module _ (a b name : Text) (top : Top) where
   -- ---- the conclusions
 
   -- B has taken a key message, whose count is at least 1, so A is in its table
-  there_at_b : (o : Option Entry) (n : ℕ) → 1 ≤ n → (seen name top a o).receiving.expected ≡ suc n → (e : Entry) × (o ≡ some e)
+  there_at_b : (o : Option Entry) (n : ℕ) → 1 ≤ n → (seen name top a o).receiving.expected ≡ suc n → (e : Entry) × (o ≡ Some e)
   unfolding seen loaded
-  there_at_b none n l h = absurd (omega arith)
-  there_at_b (some e) n l h = (e, refl)
+  there_at_b None n l h = absurd (omega arith)
+  there_at_b (Some e) n l h = (e, refl)
 
-  seen_is : (other : Text) (t : Table) (e : Entry) → entry_of other t ≡ some e → see name top other t ≡ e
+  seen_is : (other : Text) (t : Table) (e : Entry) → entry_of other t ≡ Some e → see name top other t ≡ e
   unfolding seen
   seen_is other t e h = rw h
 
-  counted_once : (t : Text) (k : Ksm) → read t ≡ some (a_to_b a b name top (ksm k)) → 1 ≤ k.ctp
+  counted_once : (t : Text) (k : Ksm) → read t ≡ Some (a_to_b a b name top (ksm k)) → 1 ≤ k.ctp
   counted_once t k h =
       (within_true 1 limit k.ctp (ksm_parts k (legal_parts _ (read_back t _ h).0).body).count).0
 
   agreed : (s : State) (for_b for_a : Entry) → see name top b s.a ≡ for_b → see name top a s.b ≡ for_a
-      → entry_of a s.b ≡ some for_a → (m : CoreEnds.Meets (E a b name top) (view s))
+      → entry_of a s.b ≡ Some for_a → (m : CoreEnds.Meets (E a b name top) (view s))
       → ReadAs a b name top m.message m.number (see name top b s.a).sending.outgoing → Agreed a b name top s for_b.sending
   agreed s for_b for_a mine theirs held m k = record {
     text = m.message;
@@ -176,7 +176,7 @@ module _ (a b name : Text) (top : Top) where
       number = omega (arith, k.count)
 
   pub agreement : {s₀ s : State} → Afresh a b name top s₀ → Reach a b name top s₀ s
-      → Distinct a b name top s.from_a → (for_b : Entry) → entry_of b s.a ≡ some for_b
+      → Distinct a b name top s.from_a → (for_b : Entry) → entry_of b s.a ≡ Some for_b
       → for_b.sending.phase ≡ confirmed → Agreed a b name top s for_b.sending
   agreement {s₀} {s} f r d for_b h ph =
       let mine : see name top b s.a ≡ for_b = seen_is b s.a for_b h in
@@ -186,7 +186,7 @@ module _ (a b name : Text) (top : Top) where
       let k : ReadAs a b name top m.message m.number (see name top b s.a).sending.outgoing =
       read_as a b name top m.message m.number (see name top b s.a).sending.outgoing m.is in
       let low : 1 ≤ m.number = omega (arith, counted_once m.message k.message k.reading, k.count) in
-      let there : (e : Entry) × (entry_of a s.b ≡ some e) =
+      let there : (e : Entry) × (entry_of a s.b ≡ Some e) =
       there_at_b (entry_of a s.b) m.number low m.b_count in
       agreed s for_b there.0 mine (seen_is a s.b there.0 there.1) there.1 m k
 
@@ -217,32 +217,32 @@ module _ (a b name : Text) (top : Top) where
       h.since
 
   pub late_error_is_harmless : {s₀ s : State} → Afresh a b name top s₀ → LateError a b name top s₀ s
-      → Distinct a b name top s.from_a → (for_b : Entry) → entry_of b s.a ≡ some for_b
+      → Distinct a b name top s.from_a → (for_b : Entry) → entry_of b s.a ≡ Some for_b
       → for_b.sending.phase ≡ confirmed → Agreed a b name top s for_b.sending
   late_error_is_harmless f h d = agreement f (late_error_run h) d
 
   -- ---- a card that has the other in its table
 
-  has_b : {s₀ s : State} → Reach a b name top s₀ s → (e : Entry) × (entry_of b s₀.a ≡ some e)
-      → (e : Entry) × (entry_of b s.a ≡ some e)
+  has_b : {s₀ s : State} → Reach a b name top s₀ s → (e : Entry) × (entry_of b s₀.a ≡ Some e)
+      → (e : Entry) × (entry_of b s.a ≡ Some e)
   has_b begin h = h
   has_b (step_a {s = s} r c may) h =
       let p = has_b r h in there_still name top b s.from_b s.a c may p.0 p.1
   has_b (step_b r c may) h = has_b r h
 
-  has_a : {s₀ s : State} → Reach a b name top s₀ s → (e : Entry) × (entry_of a s₀.b ≡ some e)
-      → (e : Entry) × (entry_of a s.b ≡ some e)
+  has_a : {s₀ s : State} → Reach a b name top s₀ s → (e : Entry) × (entry_of a s₀.b ≡ Some e)
+      → (e : Entry) × (entry_of a s.b ≡ Some e)
   has_a begin h = h
   has_a (step_a r c may) h = has_a r h
   has_a (step_b {s = s} r c may) h =
       let p = has_a r h in there_still name top a s.from_a s.b c may p.0 p.1
 
-  loaded_once_at_a : {s₀ s : State} → Reach a b name top s₀ s → (for_b : Entry) → entry_of b s₀.a ≡ some for_b
+  loaded_once_at_a : {s₀ s : State} → Reach a b name top s₀ s → (for_b : Entry) → entry_of b s₀.a ≡ Some for_b
       → (key_name : Text) (key : Top) → (run s.a (load b key_name key)).outcome.answer ≢ 0
   loaded_once_at_a {s = s} r for_b h key_name key =
       let p = has_b r (for_b, h) in loaded_once b key_name key s.a p.0 p.1
 
-  loaded_once_at_b : {s₀ s : State} → Reach a b name top s₀ s → (for_a : Entry) → entry_of a s₀.b ≡ some for_a
+  loaded_once_at_b : {s₀ s : State} → Reach a b name top s₀ s → (for_a : Entry) → entry_of a s₀.b ≡ Some for_a
       → (key_name : Text) (key : Top) → (run s.b (load a key_name key)).outcome.answer ≢ 0
   loaded_once_at_b {s = s} r for_a h key_name key =
       let p = has_a r (for_a, h) in loaded_once a key_name key s.b p.0 p.1

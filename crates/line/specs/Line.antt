@@ -1,7 +1,6 @@
 -- Two cards, A and B, on a bad line: the demand and all that it rests on. Proved as `claims` in proofs/Theorem.antt.
-use Rattle.std.specs.Prelude.{◌≡◌, ◌⊎◌, ◌≢◌, ℕ, ◌+◌, ◌^◌, ◌<◌, eqb}
+use Rattle.std.specs.Prelude.{◌≡◌, ◌⊎◌, ◌≢◌, ℕ, ◌+◌, ◌^◌, ◌<◌, eqb, Option, None, Some}
 use mathlib.Core.List.{List, [], ◌∷◌, ◌++◌, Memᴰ}
-use Rattle.std.proofs.Math.Option.{Option, none, some}
 use Rattle.octets.specs.Text.{Text, same}
 use Rattle.octets.specs.Part.{bare}
 use Rattle.keying.specs.declared.Top.{Top}
@@ -49,8 +48,8 @@ count_in (esm m) = []
 count_in (option c w) = []
 
 unfoldable pub count_from : Text → Option Reading → List ℕ
-count_from id none = []
-count_from id (some r) = in_case same r.org id then count_in r.body else []
+count_from id None = []
+count_from id (Some r) = in_case same r.org id then count_in r.body else []
 
 -- the count of a key message from that partner that the call accepted
 unfoldable pub counted : Text → Call → ℕ → List ℕ
@@ -104,7 +103,7 @@ module _ (name : Text) (top : Top) where
   -- what is asked of a call that is answered so; `other` is the other card, `wrote` what that card has written
   unfoldable pub Allowed : Text → List Text → Call → ℕ → Type 0
   -- a message naming the other card as originator was written by it
-  Allowed other wrote (receive room text) answer = (r : Reading) → read text ≡ some r → r.org ≡ other → text ∈ wrote
+  Allowed other wrote (receive room text) answer = (r : Reading) → read text ≡ Some r → r.org ≡ other → text ∈ wrote
   Allowed other wrote (about to a) answer = AllowedAct other to a answer
   -- a load of the other card is refused, or has that key under that name
   Allowed other wrote (load to key_name key) answer = answer ≡ 0 → to ≡ other → (key_name ≡ name) × (key ≡ top)
@@ -116,7 +115,7 @@ module _ (name : Text) (top : Top) where
   -- a card that has this identity, and for the other no entry yet or the one that loading makes
   pub record Fresh (own other : Text) (t : Table) : Type 0 where
     pub identity : bare t.own ≡ own
-    pub entry : (entry_of other t ≡ none) ⊎ (entry_of other t ≡ some (entry_for other))
+    pub entry : (entry_of other t ≡ None) ⊎ (entry_of other t ≡ Some (entry_for other))
 
 -- B's receiving unit holds the very keys of A's sending unit, with their names, under the count of the key message
 pub record InStep (ours : Sending) (theirs : Receiving) (m : Ksm) : Type 0 where
@@ -161,7 +160,7 @@ module _ (a b name : Text) (top : Top) where
   -- no two of A's key messages to B call for answers with equal MACs
   abbrev pub Distinct : List Text → Type 0
   Distinct wrote =
-      (t u : Text) (m n : Ksm) → t ∈ wrote → u ∈ wrote → read t ≡ some (a_to_b (ksm m)) → read u ≡ some (a_to_b (ksm n))
+      (t u : Text) (m n : Ksm) → t ∈ wrote → u ∈ wrote → read t ≡ Some (a_to_b (ksm m)) → read u ≡ Some (a_to_b (ksm n))
       → called_for m ≡ called_for n → t ≡ u
 
   -- ---- the conclusions
@@ -171,10 +170,10 @@ module _ (a b name : Text) (top : Top) where
     pub text : Text
     pub message : Ksm
     pub sent : text ∈ s.from_a
-    pub reading : read text ≡ some (a_to_b (ksm message))
+    pub reading : read text ≡ Some (a_to_b (ksm message))
     pub carried : brought b (entry_for name top a) message ≡ ours.outgoing
     pub for_a : Entry
-    pub held : entry_of a s.b ≡ some for_a
+    pub held : entry_of a s.b ≡ Some for_a
     pub in_step : InStep ours for_a.receiving message
     pub accepted : message.ctp ∈ s.accepted
 
@@ -190,7 +189,7 @@ module _ (a b name : Text) (top : Top) where
     pub meanwhile : Reach (at_b a before (receive room_b resent)) later
     pub error : Text
     pub message : Esm
-    pub reading : read error ≡ some (record { rcv = a; org = b; body = esm message })
+    pub reading : read error ≡ Some (record { rcv = a; org = b; body = esm message })
     pub old : error ∈ before.from_b
     pub room_a : ℕ
     pub since : Reach (at_a later (receive room_a error)) s
@@ -198,19 +197,19 @@ module _ (a b name : Text) (top : Top) where
   pub record Claims : Type 0 where
     -- whenever A says that its keys to B are confirmed, B holds those very keys, with their names, under the same count
     pub agreement : {s₀ s : State} → Afresh s₀ → Reach s₀ s → Distinct s.from_a
-        → (for_b : Entry) → entry_of b s.a ≡ some for_b → for_b.sending.phase ≡ confirmed → Agreed s for_b.sending
+        → (for_b : Entry) → entry_of b s.a ≡ Some for_b → for_b.sending.phase ≡ confirmed → Agreed s for_b.sending
     -- the counts of the key messages that B accepts from A strictly rise
     pub rise : {s₀ s : State} → Afresh s₀ → Reach s₀ s → Rising s.accepted
     -- `agreement` on one kind of run: an old ESM after a resend never leaves A confirmed with keys that B does not hold
     pub late_error_is_harmless : {s₀ s : State} → Afresh s₀ → LateError s₀ s → Distinct s.from_a
-        → (for_b : Entry) → entry_of b s.a ≡ some for_b → for_b.sending.phase ≡ confirmed → Agreed s for_b.sending
+        → (for_b : Entry) → entry_of b s.a ≡ Some for_b → for_b.sending.phase ≡ confirmed → Agreed s for_b.sending
     -- a card that was started is fresh, and so is one that was just loaded for the other
-    pub started : (own other : Text) (t : Table) → start own ≡ some t → Fresh name top own other t
+    pub started : (own other : Text) (t : Table) → start own ≡ Some t → Fresh name top own other t
     pub just_loaded : (own other : Text) (t : Table) → bare t.own ≡ own
         → (run t (load other name top)).outcome.answer ≡ 0
         → Fresh name top own other (run t (load other name top)).table
     -- a card that begins with the other loaded refuses every load of it: there nothing is asked of loads
-    pub loaded_once_at_a : {s₀ s : State} → Reach s₀ s → (for_b : Entry) → entry_of b s₀.a ≡ some for_b
+    pub loaded_once_at_a : {s₀ s : State} → Reach s₀ s → (for_b : Entry) → entry_of b s₀.a ≡ Some for_b
         → (key_name : Text) (key : Top) → (run s.a (load b key_name key)).outcome.answer ≢ 0
-    pub loaded_once_at_b : {s₀ s : State} → Reach s₀ s → (for_a : Entry) → entry_of a s₀.b ≡ some for_a
+    pub loaded_once_at_b : {s₀ s : State} → Reach s₀ s → (for_a : Entry) → entry_of a s₀.b ≡ Some for_a
         → (key_name : Text) (key : Top) → (run s.b (load a key_name key)).outcome.answer ≢ 0

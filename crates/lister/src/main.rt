@@ -1,192 +1,153 @@
 // The line lister: of each line on standard input its number, its class or `-`, and its length in bytes.
 #![tactic(auto)]
 
-ghost use Rattle.std.specs.Prelude.{◌≡◌};
+ghost use Rattle.std.specs.Prelude.{◌≡◌, ◌≤◌};
 ghost use Rattle.csm.specs.Message.{read};
-ghost use Rattle.lister.specs.Listing.{option_number, listed_class, row_of};
+ghost use Rattle.lister.specs.Listing.{listed_class, row_of};
 
 use fields::Class;
 use reader::Message;
 use std::env::FillError;
-use std::io;
 use std::io::Read;
 use std::rt::Env;
+use std::{fmt, io};
 
-// What is listed of a line: its class from 1 on, or 0; its length, or 513 where it is longer than 512.
+// What is listed of a line: its class, if it is a message; its length, if it is no more than 512.
 #[derive(Clone, Copy)]
 pub struct Row {
-    pub class: usize,
-    pub bytes: usize,
+    pub class: Option<Class>,
+    pub bytes: Option<usize>,
 }
 
-// Where the lister stands: how many bytes of the line it holds, the lines and the readable ones so far.
-#[derive(Clone, Copy)]
-struct State {
-    held: usize,
-    lines: u64,
-    readable: u64,
-}
-
-// The number of an option's class.
-fn option_class(class: Class) -> usize
-    ensures { result ≡ option_number class }
-{
-    match class {
-        Class::Rsi => 1,
-        Class::Ksm => 2,
-        Class::Rsm => 3,
-        Class::Esm => 4,
-        Class::Dsm => 5,
-        Class::Ers => 6,
-        Class::Rfs => 7,
-        Class::Rtr => 8,
-        Class::Nothing => 0,
+impl fmt::Display for Row {
+    fn fmt<W: fmt::Write>(&self, f: &mut fmt::Formatter<W>) -> fmt::Result {
+        match self.class {
+            Some(class) => write!(f, "{class}")?,
+            None => f.write_str("-")?,
+        }
+        match self.bytes {
+            Some(bytes) => write!(f, " {bytes}"),
+            None => f.write_str(" >512"),
+        }
     }
 }
 
-// The number of a line's class, or 0.
-fn class_of(line: &[u8]) -> usize
+// The class of a line, if it is a message.
+fn class_of(line: &[u8]) -> Option<Class>
     ensures { result ≡ listed_class (read line.now) }
 {
-    match reader::read(line) {
-        Message::Rsi(_) => 1,
-        Message::Ksm(_) => 2,
-        Message::Rsm(_) => 3,
-        Message::Esm(_) => 4,
-        Message::Option(rest) => {
-            let class = rest.class;
-            option_class(class)
-        }
-        Message::Nothing => 0,
-    }
+    Some(match reader::read(line)? {
+        Message::Rsi(_) => Class::Rsi,
+        Message::Ksm(_) => Class::Ksm,
+        Message::Rsm(_) => Class::Rsm,
+        Message::Esm(_) => Class::Esm,
+        Message::Option(rest) => rest.class,
+    })
 }
 
 // What is listed of a line.
 fn row_of(line: &[u8]) -> Row
     ensures { result ≡ row_of line.now }
 {
-    let class = class_of(line);
-    if line.len() < 513 {
-        return Row {
-            class,
-            bytes: line.len(),
-        };
-    }
-    Row { class, bytes: 513 }
-}
-
-// The name of a class.
-fn class_name(class: usize) -> &'static str {
-    match class {
-        1 => "RSI",
-        2 => "KSM",
-        3 => "RSM",
-        4 => "ESM",
-        5 => "DSM",
-        6 => "ERS",
-        7 => "RFS",
-        8 => "RTR",
-        _ => "-",
+    let bytes = line.len();
+    Row {
+        class: class_of(line),
+        bytes: (bytes <= 512).then_some(bytes),
     }
 }
 
-// A line's row.
-fn write_row(rt: &impl Print, number: u64, row: Row) -> io::Result<()> {
-    let class = class_name(row.class);
-    let bytes = row.bytes;
-    if bytes < 513 {
-        println!(rt; "{number} {class} {bytes}")
-    } else {
-        println!(rt; "{number} {class} >512")
-    }
+// What is held of a line: what it has after 513 bytes is passed over.
+#[derive(Clone, Copy)]
+struct Held {
+    line: [u8; 513],
+    bytes: usize,
+    ghost within: { bytes ≤ 513 },
 }
 
-// The line that ends here is listed.
-fn end_line(rt: &impl Print, state: State, line: &[u8]) -> io::Result<State> {
-    let row = row_of(line);
-    let number = state.lines.wrapping_add(1);
-    write_row(rt, number, row)?;
-    let mut readable = state.readable;
-    if 0 < row.class {
-        readable = readable.wrapping_add(1);
+impl Held {
+    // The bytes that are held.
+    fn line(&self) -> &[u8] {
+        &self.line[..self.bytes]
     }
-    Ok(State {
-        held: 0,
-        lines: number,
-        readable,
-    })
-}
 
-// One byte more: it ends the line, or is held; what a line has after 513 bytes is passed over.
-fn step(rt: &impl Print, state: State, b: u8, line: &mut [u8]) -> io::Result<State> {
-    let held = state.held;
-    if b == b'\n' {
-        if held <= line.len() {
-            return end_line(rt, state, &line[0..held]);
-        }
-        return Ok(state);
-    }
-    if held < line.len() {
-        line[held] = b;
-        return Ok(State {
-            held: held + 1,
-            lines: state.lines,
-            readable: state.readable,
-        });
-    }
-    Ok(state)
-}
-
-// The bytes of a chunk, one after the other.
-fn take_in(rt: &impl Print, state: State, chunk: &[u8], line: &mut [u8]) -> io::Result<State> {
-    let mut passed = state;
-    let mut i = 0;
-    while i < chunk.len() {
-        passed = step(rt, passed, chunk[i], line)?;
-        i += 1;
-    }
-    Ok(passed)
-}
-
-// What stands last: a line without its end, then the lines and the readable ones.
-fn finish(rt: &impl Print, state: State, line: &[u8]) -> io::Result<()> {
-    let held = state.held;
-    let mut last = state;
-    if 0 < held {
-        if held <= line.len() {
-            last = end_line(rt, state, &line[0..held])?;
+    // One byte more.
+    fn push(&mut self, b: u8) {
+        if self.bytes < 513 {
+            self.line[self.bytes] = b;
+            self.bytes += 1;
         }
     }
-    let lines = last.lines;
-    let readable = last.readable;
-    println!(rt; "total {lines} read {readable}")
+}
+
+// Where the lister stands: what it holds of the line, the lines and the readable ones so far.
+#[derive(Clone, Copy)]
+struct State {
+    held: Held,
+    lines: u64,
+    readable: u64,
+}
+
+impl State {
+    // The line that ends here is listed.
+    fn end_line(&mut self, rt: &impl Print) -> io::Result<()> {
+        let row = row_of(self.held.line());
+        self.held.bytes = 0;
+        self.lines = self.lines.wrapping_add(1);
+        if row.class.is_some() {
+            self.readable = self.readable.wrapping_add(1);
+        }
+        let number = self.lines;
+        println!(rt; "{number} {row}")
+    }
+
+    // The bytes of a chunk, one after the other: each ends the line, or is held.
+    fn take_in(&mut self, rt: &impl Print, chunk: &[u8]) -> io::Result<()> {
+        for b in chunk {
+            if *b == b'\n' {
+                self.end_line(rt)?;
+            } else {
+                self.held.push(*b);
+            }
+        }
+        Ok(())
+    }
+
+    // What stands last: a line without its end, then the lines and the readable ones.
+    fn finish(&mut self, rt: &impl Print) -> io::Result<()> {
+        if 0 < self.held.bytes {
+            self.end_line(rt)?;
+        }
+        let lines = self.lines;
+        let readable = self.readable;
+        println!(rt; "total {lines} read {readable}")
+    }
 }
 
 // Lists the lines of the input.
 fn list(rt: &(impl Print + Eprint), input: &mut impl Read) -> io::Result<()> {
-    let mut line = [0u8; 513];
     let mut chunk = [0u8; 4096];
     let mut state = State {
-        held: 0,
+        held: Held {
+            line: [0; 513],
+            bytes: 0,
+        },
         lines: 0,
         readable: 0,
     };
     rt.write_all(b"line class bytes\n")?;
-    let mut reads: u64 = 18446744073709551615;
-    while 0 < reads {
+    for _ in 0..u64::MAX {
         match input.read(&mut chunk) {
-            Ok(0) => return finish(rt, state, &line),
-            Ok(n) => state = take_in(rt, state, &chunk[..n], &mut line)?,
+            Ok(0) => return state.finish(rt),
+            Ok(n) => state.take_in(rt, &chunk[..n])?,
             Err(_) => return eprintln!(rt; "lister: standard input cannot be read"),
         }
-        reads -= 1;
     }
     Ok(())
 }
 
 // What the lister is for, or that it takes no such word.
 fn explain(rt: &(impl Print + Eprint), word: &[u8]) -> io::Result<()> {
-    if octets::same(word, b"--help") {
+    if word == b"--help".as_slice() {
         rt.write_all(b"usage: lister < FILE\n\n")?;
         rt.write_all(
             b"Reads messages on standard input, one to a line, and prints for each its number, its class\n",

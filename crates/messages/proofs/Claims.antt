@@ -1,8 +1,8 @@
 -- The claims of specs/Claims.antt, proved.
+use Rattle.std.specs.Prelude.{None, Some}
 use mathlib.Core.Path.{◌≡◌, refl, sym, ap, ◌∙◌}
 use mathlib.Core.Bool.{Bool, true, false, cond}
 use mathlib.Core.List.{◌++◌}
-use mathlib.Core.Option.{some}
 use Prim.Native.Nat.{ℕ, ◌≤◌}
 use native.Mathlib.Omega.{arith}
 use lib.Dec.{leb}
@@ -16,22 +16,21 @@ use Rattle.csm.specs.Message.{Reading, legal, print, read}
 use Rattle.csm.specs.Covered.{covered, covered_part, mac_of}
 use Rattle.csm.proofs.MessageLaws.{read_there}
 use Rattle.csm.proofs.CoveredLaws.{covered_agrees}
-use Rattle.messages.specs.declared.Written.TheVariants.{Length, Nothing}
 use Rattle.messages.specs.Readings.{sealed, unsealed_rsm, unsealed_ksm}
 use Rattle.messages.specs.Readings.{rsi_reading, rsm_reading, esm_reading, ksm_reading}
 use Rattle.messages.specs.Answers.{writes, answer, buffer}
 use Rattle.messages.specs.Claims.{Left, Claims}
 use Rattle.messages.proofs.Lengths.{rsi_short, rsm_short, esm_short, esm_three, known_short}
 
-pub written : (r : Reading) (l : Text) → 256 ≤ length l → legal r ≡ true → answer r l ≡ Length (length (print r))
+pub written : (r : Reading) (l : Text) → 256 ≤ length l → legal r ≡ true → answer r l ≡ Some (length (print r))
 unfolding answer writes
 written r l h k = rw (le-leb 256 (length l) h, k)
 
-pub untouched : (r : Reading) (l : Text) → answer r l ≡ Nothing → buffer r l ≡ l
+pub untouched : (r : Reading) (l : Text) → answer r l ≡ None → buffer r l ≡ l
 unfolding answer buffer
 untouched r l e = go (writes r l) refl e
   where
-    go : (b : Bool) → writes r l ≡ b → cond b (Length (length (print r))) Nothing ≡ Nothing
+    go : (b : Bool) → writes r l ≡ b → cond b (Some (length (print r))) None ≡ None
         → cond b (print r ++ drop (length (print r)) l) l ≡ l
     go true q e = cc
     go false q e = refl
@@ -43,17 +42,17 @@ pub record Writes (r : Reading) (l : Text) (n : ℕ) : Type 0 where
   pub count : n ≡ length (print r)
   pub text : buffer r l ≡ print r ++ drop (length (print r)) l
 
-pub answered : (r : Reading) (l : Text) (n : ℕ) → answer r l ≡ Length n → Writes r l n
+pub answered : (r : Reading) (l : Text) (n : ℕ) → answer r l ≡ Some n → Writes r l n
 unfolding answer buffer writes
 answered r l n e = go (writes r l) refl e
   where
-    go : (b : Bool) → writes r l ≡ b → cond b (Length (length (print r))) Nothing ≡ Length n → Writes r l n
+    go : (b : Bool) → writes r l ≡ b → cond b (Some (length (print r))) None ≡ Some n → Writes r l n
     go true q e =
         let h = and_true (leb 256 (length l)) (legal r) q in
         record { room = leb-true 256 (length l) h.0; is_legal = h.1; count = cc; text = rw q }
     go false q e = let z : ◌≡◌ {A = ℕ} 0 1 = cc in absurd (omega arith)
 
-pub left : (r : Reading) (l : Text) (n longest : ℕ) → answer r l ≡ Length n
+pub left : (r : Reading) (l : Text) (n longest : ℕ) → answer r l ≡ Some n
     → (legal r ≡ true → length (print r) ≤ longest)
     → longest ≤ 256
     → Left r l n longest
@@ -75,13 +74,13 @@ left r l n longest e f h =
       bound = omega arith;
     }
 
-sealed_over : (q : ℕ → Reading) (key : ℕ) → ((k : ℕ) → mac_of (q k).body ≡ some k)
+sealed_over : (q : ℕ → Reading) (key : ℕ) → ((k : ℕ) → mac_of (q k).body ≡ Some k)
     → ((k : ℕ) → covered_part (q k) ≡ covered_part (q 0)) → legal (sealed key q) ≡ true
-    → mac_of (sealed key q).body ≡ some (mac key (covered (print (sealed key q))))
+    → mac_of (sealed key q).body ≡ Some (mac key (covered (print (sealed key q))))
 sealed_over q key h g k =
     let m = mac key (covered_part (q 0)) in
     let c = covered_agrees (print (q m)) (q m) m (read_there (q m) k) (h m) in
-    h m ∙ ap (λ (t : Text). some (mac key t)) (sym (c ∙ g m))
+    h m ∙ ap (λ (t : Text). Some (mac key t)) (sym (c ∙ g m))
 
 pub claims : Claims
 unfolding rsm_reading ksm_reading covered_part covered print

@@ -5,9 +5,6 @@ use Rattle.octets.proofs.Alike.{alike, ◌also◌}
 use Rattle.messages.specs.contracts as contract
 use Rattle.messages.proofs as fn
 
-pub length_of : OneOutcome contract.length_of.ended fn.length_of.Reads.Post
-length_of κs a x y v w p q = (alike p q, refl)
-
 pub write_rsi : OneOutcome contract.write_rsi.ended fn.write_rsi.Reads.Post
 write_rsi κs a x y v w p q = (alike p.0 q.0, alike p.1 q.1 also refl)
 

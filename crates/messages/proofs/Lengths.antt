@@ -1,4 +1,5 @@
 -- How long the text of each reading can be.
+use Rattle.std.specs.Prelude.{Option}
 use mathlib.Core.Path.{◌≡◌}
 use mathlib.Core.Bool.{true, ◌&&◌}
 use mathlib.Core.List.{[], ◌∷◌, ◌++◌}
@@ -41,7 +42,7 @@ unfolding rsm_reading
 rsm_short rcv org key k = print_short (rsm_reading rcv org key) 15 k (λ b. omega arith)
 
 -- an ESM whose ERF has at most m bytes
-esm_within : (rcv org : Text) (n : ℕ) (c : Counts) (m : ℕ) → (erf.legal n ≡ true → length ((field ERF).print n) ≤ m)
+esm_within : (rcv org : Text) (n : ℕ) (c : Option Counts) (m : ℕ) → (erf.legal n ≡ true → length ((field ERF).print n) ≤ m)
     → legal (esm_reading rcv org n c) ≡ true → length (print (esm_reading rcv org n c)) ≤ 54 + (26 + (m + 1))
 unfolding esm_reading
 esm_within rcv org n c m f k =
@@ -66,11 +67,11 @@ esm_within rcv org n c m f k =
       length-append z (ascii ")"),
     ))
 
-pub esm_short : (rcv org : Text) (n : ℕ) (c : Counts) → legal (esm_reading rcv org n c) ≡ true
+pub esm_short : (rcv org : Text) (n : ℕ) (c : Option Counts) → legal (esm_reading rcv org n c) ≡ true
     → length (print (esm_reading rcv org n c)) ≤ 95
 esm_short rcv org n c k = esm_within rcv org n c 14 (λ e. field_length ERF n e) k
 
-pub esm_three : (rcv org : Text) (n : ℕ) (c : Counts) → length (erf.text n) ≤ 3
+pub esm_three : (rcv org : Text) (n : ℕ) (c : Option Counts) → length (erf.text n) ≤ 3
     → legal (esm_reading rcv org n c) ≡ true
     → length (print (esm_reading rcv org n c)) ≤ 89
 esm_three rcv org n c h k =

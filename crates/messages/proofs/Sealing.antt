@@ -1,7 +1,7 @@
 -- A message that was written up to its MAC, and then sealed.
+use Rattle.std.specs.Prelude.{Some}
 use mathlib.Core.Path.{◌≡◌, refl, sym, ap, ◌∙◌}
 use mathlib.Core.List.{[], ◌∷◌, ◌++◌}
-use mathlib.Core.Option.{some}
 use Prim.Native.Nat.{ℕ, ◌+◌, ◌-◌, ◌≤◌}
 use native.Mathlib.Omega.{arith}
 use lib.ListN.{length, take, drop, length-append}
@@ -35,7 +35,7 @@ wrote_again {x} {l} {l₁} {l₂} {n} {m} t p q =
 
 -- a reading whose MAC is its argument, and whose covered part does not depend on it
 pub record Sealable (q : ℕ → Reading) : Type 0 where
-  pub has : (k : ℕ) → mac_of (q k).body ≡ some k
+  pub has : (k : ℕ) → mac_of (q k).body ≡ Some k
   pub same : (k : ℕ) → covered_part (q k) ≡ covered_part (q 0)
 
 module _ {q : ℕ → Reading} (s : Sealable q) (key : ℕ) where

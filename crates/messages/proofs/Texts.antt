@@ -1,5 +1,6 @@
 -- The text of each reading, as its writers leave it part by part.
-use mathlib.Core.Path.{◌≡◌, refl, sym, ap, ◌∙◌}
+use Rattle.std.specs.Prelude.{Option, Some, option_map}
+use mathlib.Core.Path.{◌≡◌, refl}
 use mathlib.Core.List.{[], ◌∷◌, ◌++◌, append_assoc, append-nil}
 use Prim.Native.Nat.{ℕ, ◌%◌, ◌<◌}
 use native.Mathlib.Nat.{mod-eq_of_lt}
@@ -9,45 +10,23 @@ use Rattle.csm.specs.Fields.{decimal, field, RCV, ORG, SVR, NOS, KD, IV, EDK, CT
 use Rattle.csm.specs.Message.{print, flagged}
 use Rattle.csm.specs.Covered.{covered_part}
 use Rattle.messages.specs.declared.Counts.{Counts}
-use Rattle.messages.specs.declared.Counts.TheVariants.{Without, Both}
 use Rattle.messages.specs.declared.Ksm.{Ksm}
-use Rattle.writer.specs.Contents.{there, kd_of, iv_of, keys_text}
+use Rattle.writer.specs.Contents.{kd_of, iv_of, keys_text}
 use Rattle.messages.specs.Readings.{ctp_of, ctr_of}
 use Rattle.messages.specs.Parts.{counts_text}
 use Rattle.messages.specs.Readings.{rsi_reading, esm_reading, unsealed_rsm, unsealed_ksm}
-use Rattle.messages.specs.Parts.{tail_text, unsealed_text}
+use Rattle.messages.specs.Parts.{unsealed_text}
 use Rattle.messages.proofs.Sealing.{Sealable}
 
 -- ---- the parts
 
--- a count has its own digits
-count_is : (tag : Text) (n : ℕ) → n < 100_000_000
-    → tag ++ (decimal 7 (n % 100_000_000) ++ blank ∷ []) ≡ tag ++ (decimal 7 n ++ blank ∷ [])
-count_is tag n h = ap (λ (m : ℕ). tag ++ (decimal 7 m ++ blank ∷ [])) (mod-eq_of_lt h)
-
-pub no_counts : {counts : Counts} → counts ≡ Without → [] ≡ counts_text counts
-unfolding counts_text
-no_counts e = ap counts_text (sym e)
-
-pub both_counts : {counts : Counts} (p r : ℕ) → counts ≡ Both p r → p < 100_000_000 → r < 100_000_000
-    → (ascii "CTP/" ++ (decimal 7 (p % 100_000_000) ++ blank ∷ []))
-    ++ (ascii "CTR/" ++ (decimal 7 (r % 100_000_000) ++ blank ∷ []))
+-- counts have their own digits
+pub both_counts : {counts : Option Counts} (c : Counts) → counts ≡ Some c → c.ctp < 100_000_000 → c.ctr < 100_000_000
+    → (ascii "CTP/" ++ (decimal 7 (c.ctp % 100_000_000) ++ blank ∷ []))
+    ++ (ascii "CTR/" ++ (decimal 7 (c.ctr % 100_000_000) ++ blank ∷ []))
     ≡ counts_text counts
 unfolding counts_text
-both_counts p r e h k =
-    ap (λ (t : Text). t ++ (ascii "CTR/" ++ (decimal 7 (r % 100_000_000) ++ blank ∷ []))) (count_is (ascii "CTP/") p h)
-    ∙ ap (λ (t : Text). (ascii "CTP/" ++ (decimal 7 p ++ blank ∷ [])) ++ t) (count_is (ascii "CTR/") r k)
-    ∙ ap counts_text (sym e)
-
-pub tail_parts : (k : Ksm) → k.ctp < 100_000_000
-    → (maybe_print (field IV) (iv_of k.vector) ++ maybe_print (field EDK) (there k.dated k.edk))
-    ++ (ascii "CTP/" ++ (decimal 7 (k.ctp % 100_000_000) ++ blank ∷ []))
-    ≡ tail_text k
-unfolding tail_text
-tail_parts k h =
-    let x = maybe_print (field IV) (iv_of k.vector) in
-    let y = maybe_print (field EDK) (there k.dated k.edk) in
-    ap (λ (t : Text). (x ++ y) ++ t) (count_is (ascii "CTP/") k.ctp h) ∙ append_assoc x y ((field CTP).print k.ctp)
+both_counts c e h k = rw (e, mod-eq_of_lt h, mod-eq_of_lt k)
 
 -- ---- the messages: what starts each, RCV and ORG, and what follows
 
@@ -62,21 +41,18 @@ unfolding print rsi_reading
 rsi_text rcv org s =
     whole (ascii "CSM(MCL/RSI ") ((field RCV).print rcv) ((field ORG).print org) ((field SVR).print s) (ascii ")")
 
-pub esm_text : (rcv org : Text) (n : ℕ) (c : Counts)
-    → ((ascii "CSM(MCL/ESM " ++ ((field RCV).print rcv ++ (field ORG).print org))
-    ++ (counts_text c ++ (field ERF).print n)) ++ ascii ")"
+pub esm_text : (rcv org : Text) (n : ℕ) (c : Option Counts)
+    → (((ascii "CSM(MCL/ESM " ++ ((field RCV).print rcv ++ (field ORG).print org))
+    ++ counts_text c) ++ (field ERF).print n) ++ ascii ")"
     ≡ print (esm_reading rcv org n c)
 unfolding print counts_text esm_reading
 esm_text rcv org n c =
-    let p = maybe_print (field CTP) (ctp_of c) in
-    let r = maybe_print (field CTR) (ctr_of c) in
-    let head = ascii "CSM(MCL/ESM " ++ ((field RCV).print rcv ++ ((field ORG).print org ++ [])) in
-    whole (ascii "CSM(MCL/ESM ") ((field RCV).print rcv) ((field ORG).print org) ((p ++ r) ++ (field ERF).print n)
-    (ascii ")")
-    ∙ ap (λ (t : Text). head ++ t) (grouped p r ((field ERF).print n) (ascii ")"))
+    go (ascii "CSM(MCL/ESM ") ((field RCV).print rcv) ((field ORG).print org) (maybe_print (field CTP) (ctp_of c))
+    (maybe_print (field CTR) (ctr_of c)) ((field ERF).print n) (ascii ")")
   where
-    grouped : (p r f e : Text) → ((p ++ r) ++ f) ++ e ≡ p ++ (r ++ (f ++ e))
-    grouped p r f e = simp append_assoc
+    go : (s r o x y f e : Text)
+        → (((s ++ (r ++ o)) ++ (x ++ y)) ++ f) ++ e ≡ (s ++ (r ++ (o ++ []))) ++ (x ++ (y ++ (f ++ e)))
+    go s r o x y f e = simp (append_assoc, append-nil)
 
 pub rsm_text : (rcv org : Text)
     → ascii "CSM(MCL/RSM " ++ ((field RCV).print rcv ++ (field ORG).print org) ≡ unsealed_text (unsealed_rsm rcv org)
@@ -86,22 +62,20 @@ rsm_text rcv org = go (ascii "CSM(MCL/RSM ") ((field RCV).print rcv) ((field ORG
     go : (s r o : Text) → s ++ (r ++ o) ≡ (s ++ (r ++ (o ++ []))) ++ []
     go s r o = simp append-nil
 
-pub ksm_text : (rcv org : Text) (k : Ksm)
-    → (((ascii "CSM(MCL/KSM " ++ ((field RCV).print rcv ++ (field ORG).print org))
-    ++ maybe_print (field NOS) (flagged k.nos)) ++ keys_text k.first k.two k.second) ++ tail_text k
+pub ksm_text : (rcv org : Text) (k : Ksm) → k.ctp < 100_000_000
+    → (((((ascii "CSM(MCL/KSM " ++ ((field RCV).print rcv ++ (field ORG).print org))
+    ++ maybe_print (field NOS) (flagged k.nos)) ++ keys_text k.first k.second) ++ maybe_print (field IV) (option_map iv_of k.vector))
+    ++ maybe_print (field EDK) k.edk) ++ (ascii "CTP/" ++ (decimal 7 (k.ctp % 100_000_000) ++ blank ∷ []))
     ≡ unsealed_text (unsealed_ksm rcv org k)
-unfolding unsealed_text covered_part keys_text tail_text
-ksm_text rcv org k =
-    let f = (field KD).print (kd_of k.first) in
-    let s = maybe_print (field KD) (there k.two (kd_of k.second)) in
-    let v = maybe_print (field IV) (iv_of k.vector) in
-    let d = maybe_print (field EDK) (there k.dated k.edk) in
-    let n = (field CTP).print k.ctp in
-    go (ascii "CSM(MCL/KSM ") ((field RCV).print rcv) ((field ORG).print org) (maybe_print (field NOS) (flagged k.nos))
-    f s v d n
+unfolding unsealed_text covered_part keys_text
+ksm_text rcv org k h =
+    rw (mod-eq_of_lt h)
+    (go (ascii "CSM(MCL/KSM ") ((field RCV).print rcv) ((field ORG).print org) (maybe_print (field NOS) (flagged k.nos))
+    ((field KD).print (kd_of k.first)) (maybe_print (field KD) (option_map kd_of k.second))
+    (maybe_print (field IV) (option_map iv_of k.vector)) (maybe_print (field EDK) k.edk) ((field CTP).print k.ctp))
   where
     go : (s r o m k l x y z : Text)
-        → (((s ++ (r ++ o)) ++ m) ++ (k ++ l)) ++ (x ++ (y ++ z))
+        → (((((s ++ (r ++ o)) ++ m) ++ (k ++ l)) ++ x) ++ y) ++ z
         ≡ (s ++ (r ++ (o ++ []))) ++ (m ++ (k ++ (l ++ (x ++ (y ++ (z ++ []))))))
     go s r o m k l x y z = simp (append_assoc, append-nil)
 

@@ -1,2 +1,1 @@
-pub mod Notaries
 pub mod Determined

@@ -7,25 +7,28 @@ ghost use Rattle.keying.specs.Working as working;
 
 use keying::Top;
 
+// One above the right 32 bits.
+const HALF: u64 = 1 << 32;
+
 // Eight characters of an identity from a place on, the identity replicated as often as necessary, as a number.
+#[tactic(auto, using(keying::proofs::Characters::none_to_repeat))]
 fn eight(identity: &[u8], at: usize) -> u64
     requires { at ≤ 8 }
     ensures { result ≡ number (working.characters 8 at identity.now) }
 {
-    if identity.len() == 0 {
+    if identity.is_empty() {
         return 0;
     }
-    let mut x: u64 = 0;
-    let mut i = 0;
-    while i < 8 {
+    let mut x = 0;
+    for i in 0..8 {
         x = (x << 8) + identity[(at + i) % identity.len()] as u64;
-        i += 1;
     }
     x
 }
 
 // A half of the notary seal: the second half of one identity enciphered under the key and the first half of the other, the
 // characters one bit to the left.
+#[tactic(auto, unfolding(keying::specs::Working::add_characters, keying::specs::Working::first_half, keying::specs::Working::second_half, keying::specs::Working::notary))]
 fn notary(key: u64, from: &[u8], to: &[u8]) -> u64
     ensures { result ≡ working.notary key from.now to.now }
 {
@@ -33,6 +36,7 @@ fn notary(key: u64, from: &[u8], to: &[u8]) -> u64
 }
 
 // The notarizing key: of a single key the left 32 bits of one half of the seal and the right 32 bits of the other are added.
+#[tactic(auto, unfolding(keying::specs::Working::offset, keying::specs::Working::notarizing))]
 fn notarizing(top: Top, org: &[u8], rcv: &[u8], count: u64) -> Top
     ensures { result ≡ working.notarizing org.now rcv.now top count }
 {
@@ -40,7 +44,7 @@ fn notarizing(top: Top, org: &[u8], rcv: &[u8], count: u64) -> Top
         Top::Single(key) => {
             let l = notary(key, org, rcv);
             let r = notary(key, rcv, org);
-            Top::Single(key ^ ((l / 4294967296 * 4294967296 + r % 4294967296) ^ count))
+            Top::Single(key ^ ((l / HALF * HALF + r % HALF) ^ count))
         }
         Top::Pair(left, right) => {
             let l = notary(right, org, rcv);
@@ -51,6 +55,7 @@ fn notarizing(top: Top, org: &[u8], rcv: &[u8], count: u64) -> Top
 }
 
 // The key that a message's data keys go under: its count is added to both halves of a pair.
+#[tactic(auto, unfolding(keying::specs::Working::offset, keying::specs::Working::working))]
 pub fn working(notarized: bool, org: &[u8], rcv: &[u8], top: Top, count: u64) -> Top
     ensures { result ≡ working.working notarized org.now rcv.now top count }
 {

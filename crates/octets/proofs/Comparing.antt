@@ -11,7 +11,7 @@ use lib.ListN.{length, take, drop, get_or, drop_of_length-le}
 use lib.Seq.{drop-cons}
 use mir.Syntax.{w8}
 use mir.Val.{Fits}
-use borrow.Author.Tests.{eq-eqb, ne_eqb, eqb-true, lt-ltb}
+use borrow.Author.Tests.{eq-eqb, eqb-true, lt-ltb}
 use Rattle.octets.specs.Text.{Text, all, same, starts}
 use Rattle.octets.specs.Part.{all_octets}
 
@@ -34,9 +34,6 @@ join {a} {b} h k = ap (λ (x : Bool). x && b) h ∙ k
 -- what two tests give where the first holds, and where it does not
 pub and_then : (a b : Bool) {r : Bool} → a ≡ true → r ≡ b → r ≡ (a && b)
 and_then a b t e = rw t e
-
-pub and_else : (a b : Bool) {r : Bool} → a ≡ false → r ≡ false → r ≡ (a && b)
-and_else a b t e = rw t e
 
 -- two truths that follow from each other are one
 pub iff : (a b : Bool) → (a ≡ true → b ≡ true) → (b ≡ true → a ≡ true) → a ≡ b
@@ -126,17 +123,6 @@ differs_same v w n = go (same v w) refl
 pub same_length : (v w : Text) → (length v ≡ length w → ⊥) → same v w ≡ false
 same_length v w n = differs_same v w (λ e. n (ap length e))
 
--- a loop that compares byte by byte
-module _ (v w : Text) (i : ℕ) (h : i < length v) (k : i < length w) where
-  pub same_step : get_or v i 0 ≡ get_or w i 0 → same (drop i v) (drop i w) ≡ same (drop (i + 1) v) (drop (i + 1) w)
-  same_step e = rw (drop_step v i h, drop_step w i k, eq-eqb (get_or v i 0) (get_or w i 0) e)
-
-  pub same_stop : (get_or v i 0 ≡ get_or w i 0 → ⊥) → same (drop i v) (drop i w) ≡ false
-  same_stop n = rw (drop_step v i h, drop_step w i k, ne_eqb (get_or v i 0) (get_or w i 0) n)
-
-pub same_end : (v w : Text) (i : ℕ) → length v ≤ i → length w ≤ i → same (drop i v) (drop i w) ≡ true
-same_end v w i h k = rw (drop_end v i h, drop_end w i k)
-
 -- ---- a text at the front of another
 
 pub starts_split : (w s : Text) → starts w s ≡ true → s ≡ w ++ drop (length w) s
@@ -156,18 +142,3 @@ pub starts_fits : (w s : Text) → starts w s ≡ true → length w ≤ length s
 starts_fits [] s e = omega arith
 starts_fits (c ∷ w) [] e = absurd (true≢false (sym e))
 starts_fits (c ∷ w) (x ∷ s) e = let h = starts_fits w s (both (eqb x c) (starts w s) e).1 in omega arith
-
--- a loop that compares with a text, byte by byte
-module _ (w s : Text) (i j : ℕ) (h : i < length w) where
-  pub starts_step : j < length s → get_or s j 0 ≡ get_or w i 0
-      → starts (drop i w) (drop j s) ≡ starts (drop (i + 1) w) (drop (j + 1) s)
-  starts_step k e = rw (drop_step w i h, drop_step s j k, eq-eqb (get_or s j 0) (get_or w i 0) e)
-
-  pub starts_stop : j < length s → (get_or s j 0 ≡ get_or w i 0 → ⊥) → starts (drop i w) (drop j s) ≡ false
-  starts_stop k n = rw (drop_step w i h, drop_step s j k, ne_eqb (get_or s j 0) (get_or w i 0) n)
-
-  pub starts_short : length s ≤ j → starts (drop i w) (drop j s) ≡ false
-  starts_short k = rw (drop_step w i h, drop_end s j k)
-
-pub starts_end : (w s : Text) (i : ℕ) → length w ≤ i → starts (drop i w) s ≡ true
-starts_end w s i h = rw (drop_end w i h)

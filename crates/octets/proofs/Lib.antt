@@ -1,6 +1,7 @@
 pub mod Comparing
 pub mod Parting
 pub mod Writing
+pub mod Library
 pub mod Numbers
 pub mod Parts
 pub mod Words

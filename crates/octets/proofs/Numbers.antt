@@ -5,14 +5,12 @@ use mathlib.Core.List.{[], ◌∷◌, ◌++◌}
 use Prim.Native.Nat.{ℕ, zero, suc, ◌+◌, ◌*◌, ◌/◌, ◌%◌, ◌^◌, ◌≤◌, ◌<◌}
 use native.Mathlib.Nat.{pow-suc, pow-succ', one-le-pow, pow-le-pow_right, mod-lt, mod-eq_of_lt, mod-one}
 use native.Mathlib.Nat.{div-one, div-eq_of_lt, div-div-eq-div-mul, mul_assoc, add-mul, zero-add}
-use native.Mathlib.Nat.{le_of_suc-le-suc, not-suc-le-zero, lt_of_lt_of_le}
-use native.Mathlib.Numerals.{add-one}
+use native.Mathlib.Nat.{lt_of_lt_of_le}
 use native.Mathlib.Omega.{arith}
 use lib.Arith.{digits_lt, digits_div, mod-mul}
 use lib.Dec.{ltb}
-use lib.ListN.{length, take, get_or, length-append}
+use lib.ListN.{length, get_or, length-append}
 use lib.Pow.{pow-add}
-use lib.Seq.{take-suc}
 use borrow.Author.Tests.{lt-ltb, ltb-true}
 use Rattle.octets.specs.Text.{Text}
 use Rattle.octets.specs.Part.{all_octets}
@@ -88,10 +86,6 @@ pub number_cons : (b : ℕ) (s : Text) → number (b ∷ s) ≡ b * 256 ^ length
 unfolding number
 number_cons b s = ap (λ (m : ℕ). number_after m s) (zero-add b) ∙ number_after_is b s
 
-pub number_join : (s t : Text) → number (s ++ t) ≡ number s * 256 ^ length t + number t
-unfolding number
-number_join s t = number_append 0 s t ∙ number_after_is (number s) t
-
 pub number_below : (s : Text) → all_octets s ≡ true → number s < 256 ^ length s
 unfolding number
 number_below [] e = omega arith
@@ -121,13 +115,6 @@ pub number_fits : (s : Text) → all_octets s ≡ true → length s ≤ 8 → nu
 number_fits s e h =
     mod-eq_of_lt (lt_of_lt_of_le (number_below s e) (pow-le-pow_right {n = 256} (omega arith) h))
 
--- a loop that reads byte by byte
-pub number_step : (s : Text) (i : ℕ) → i < length s → number (take (i + 1) s) ≡ number (take i s) * 256 + get_or s i 0
-unfolding number
-number_step s i h =
-    let e : take (i + 1) s ≡ take i s ++ get_or s i 0 ∷ [] = rw (add-one i) (take-suc s i 0 h) in
-    ap (number_after 0) e ∙ number_append 0 (take i s) (get_or s i 0 ∷ [])
-
 -- ---- a byte of a number of 64 bits
 
 power_is : (k : ℕ) → 2 ^ (8 * k) ≡ 256 ^ k
@@ -148,8 +135,3 @@ byte_beyond x k h e =
 pub length_copies : (k b : ℕ) → length (copies k b) ≡ k
 length_copies zero b = refl
 length_copies (suc k) b = ap suc (length_copies k b)
-
-pub copies_at : (k b i : ℕ) → i < k → get_or (copies k b) i 0 ≡ b
-copies_at zero b i h = absurd (not-suc-le-zero h)
-copies_at (suc k) b zero h = refl
-copies_at (suc k) b (suc i) h = copies_at k b i (le_of_suc-le-suc h)

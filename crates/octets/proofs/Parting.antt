@@ -2,17 +2,16 @@
 use mathlib.Core.Path.{◌≡◌, refl, ap}
 use mathlib.Core.Bool.{Bool, true, false, not, cond}
 use mathlib.Core.List.{[], ◌∷◌, ◌++◌}
-use Prim.Native.Nat.{ℕ, zero, suc, ◌+◌, ◌-◌, ◌≤◌, ◌<◌}
+use Prim.Native.Nat.{ℕ, zero, suc, ◌+◌, ◌≤◌, ◌<◌}
 use native.Mathlib.Nat.{le_of_suc-le-suc, not-suc-le-zero}
 use native.Mathlib.Omega.{arith}
 use lib.Dec.{eqb}
-use lib.ListN.{length, take, drop, get_or, length-take, length-drop}
+use lib.ListN.{length, take, drop, get_or}
 use lib.Seq.{take_all}
 use borrow.Author.Tests.{eq-eqb, ne_eqb, eqb-true, not-true}
 use Rattle.octets.specs.Text.{Text, blank, free}
-use Rattle.octets.specs.Part.{before, bare, part}
-use Rattle.octets.specs.declared.Span.{Span}
-use Rattle.octets.proofs.Comparing.{drop_step, drop_end, both}
+use Rattle.octets.specs.Part.{before, bare}
+use Rattle.octets.proofs.Comparing.{drop_step, both}
 
 pub before_fits : (x : ℕ) (s : Text) → before x s ≤ length s
 before_fits x [] = omega arith
@@ -59,26 +58,10 @@ before_at x (y ∷ s) h = go (eqb y x) refl h (before_at x s)
     go false e k r = r (le_of_suc-le-suc k)
 
 -- a search from place to place
-module _ (x : ℕ) (s : Text) (i : ℕ) where
-  pub before_step : i < length s → (get_or s i 0 ≡ x → ⊥) → i + before x (drop i s) ≡ i + 1 + before x (drop (i + 1) s)
-  before_step h n = rw (drop_step s i h, ne_eqb (get_or s i 0) x n) (omega arith)
-
-  pub before_here : i < length s → get_or s i 0 ≡ x → i + before x (drop i s) ≡ i
-  before_here h e = rw (drop_step s i h, eq-eqb (get_or s i 0) x e) (omega arith)
-
-  pub before_end : length s ≤ i → i + before x (drop i s) ≡ i
-  before_end h = rw (drop_end s i h) (omega arith)
+pub before_step : (x : ℕ) (s : Text) (i : ℕ) → i < length s → (get_or s i 0 ≡ x → ⊥)
+    → i + before x (drop i s) ≡ i + 1 + before x (drop (i + 1) s)
+before_step x s i h n = rw (drop_step s i h, ne_eqb (get_or s i 0) x n) (omega arith)
 
 -- a text with no blank is its own bare part
 pub bare_free : (s : Text) → free blank s ≡ true → bare s ≡ s
 bare_free s e = take_all (before blank s) s (omega (arith, before_free blank s e))
-
--- of nothing nothing is taken
-pub take_empty : (n : ℕ) → ◌≡◌ {A = Text} (take n []) []
-take_empty zero = refl
-take_empty (suc n) = refl
-
--- a part lies within its text
-pub part_length : (s : Text) (p : Span) → length (part s p) ≤ length s - p.at
-unfolding part
-part_length s p = omega (arith, length-take p.length (drop p.at s), length-drop p.at s)

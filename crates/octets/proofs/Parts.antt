@@ -6,15 +6,14 @@ use Prim.Native.Nat.{ℕ, zero, suc, ◌+◌, ◌-◌, ◌^◌, ◌%◌, ◌≤�
 use native.Mathlib.Nat.{le_of_suc-le-suc, not-suc-le-zero, zero-add}
 use native.Mathlib.Omega.{arith}
 use lib.Dec.{ltb}
-use lib.ListN.{length, take, drop, get_or, length-append, length-take, length-drop, drop_of_length-le}
-use lib.Seq.{take_at, take_all, take-add, take-take, take-append-le, drop_at, drop-drop, drop-nil}
+use lib.ListN.{length, take, drop, get_or, length-append, length-take, length-drop}
+use lib.Seq.{take_at, take-add, take-take, take-append-le, drop_at, drop-drop, drop-nil}
 use Rattle.octets.specs.Text.{Text}
 use Rattle.octets.specs.Part.{all_octets}
 use Rattle.octets.specs.Number.{number_after, number, copies}
 use Rattle.octets.specs.Wrote.{over}
 use Rattle.octets.specs.Codec.{part_or_zeros}
 use Rattle.octets.proofs.Comparing.{drop_step, all_append, all_take, all_drop}
-use Rattle.octets.proofs.Writing.{over_whole}
 use Rattle.octets.proofs.Numbers.{length_copies, number_fits}
 
 -- ---- a text filled up
@@ -63,10 +62,6 @@ octets_part k at s h =
 pub part_front : (k j at : ℕ) (s : Text) → k ≤ j → take k (part_or_zeros j at s) ≡ part_or_zeros k at s
 part_front k j at s h = take-take k j (drop at s ++ copies j 0) h ∙ take_filled (drop at s) k j 0 h
 
--- past the end
-pub part_none : (k at : ℕ) (s : Text) → length s ≤ at → take k (copies k 0) ≡ part_or_zeros k at s
-part_none k at s h = ap (λ (t : Text). take k (t ++ copies k 0)) (sym (drop_of_length-le s h))
-
 -- within the text, cut out from one place to another
 pub part_cut : (k at end : ℕ) (s : Text) → end ≡ at + k → end ≤ length s
     → take (end - at) (drop at s) ≡ part_or_zeros k at s
@@ -74,13 +69,6 @@ part_cut k at end s e h =
     let n : end - at ≡ k = omega arith in
     ap (λ (m : ℕ). take m (drop at s)) n
     ∙ sym (take-append-le k (drop at s) (copies k 0) (omega (arith, length-drop at s)))
-
--- the same, laid over as many bytes
-pub part_laid : (k at end : ℕ) (s : Text) → end ≡ at + k → end ≤ length s
-    → over (take (end - at) (drop at s)) (copies k 0) ≡ part_or_zeros k at s
-part_laid k at end s e h =
-    ap (λ (t : Text). over t (copies k 0)) (part_cut k at end s e h)
-    ∙ over_whole (part_or_zeros k at s) (copies k 0) (length_part k at s ∙ sym (length_copies k 0))
 
 -- one byte
 pub part_byte : (at : ℕ) (s : Text) → at < length s → get_or s at 0 ≡ number (part_or_zeros 1 at s)
@@ -93,11 +81,6 @@ part_byte at s h =
 pub part_fits : (k at : ℕ) (s : Text) → all_octets s ≡ true → k ≤ 8
     → number (part_or_zeros k at s) % 2 ^ 64 ≡ number (part_or_zeros k at s)
 part_fits k at s h e = number_fits (part_or_zeros k at s) (octets_part k at s h) (omega (arith, length_part k at s))
-
--- what is copied over zeros
-pub part_copied : (k at n : ℕ) (s : Text) → length (drop at s) ≤ n
-    → over (take n (drop at s)) (copies k 0) ≡ part_or_zeros k at s
-part_copied k at n s h = ap (λ (t : Text). over t (copies k 0)) (take_all n (drop at s) h) ∙ over_copies (drop at s) k 0
 
 -- what stands at a place
 pub part_at : (x q y : Text) → part_or_zeros (length q) (length x) (x ++ (q ++ y)) ≡ q

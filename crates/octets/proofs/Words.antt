@@ -2,7 +2,7 @@
 use mathlib.Core.Path.{◌≡◌, refl, sym, ap, ◌∙◌}
 use mathlib.Core.Bool.{Bool, true, false, ◌&&◌, true≢false}
 use mathlib.Core.List.{[], ◌∷◌, ◌++◌}
-use Prim.Native.Nat.{ℕ, zero, suc, ◌+◌, ◌≤◌, ◌<◌, ◌^◌}
+use Prim.Native.Nat.{ℕ, zero, suc, ◌+◌, ◌-◌, ◌%◌, ◌≤◌, ◌<◌, ◌^◌}
 use native.Mathlib.Omega.{arith}
 use lib.Dec.{eqb}
 use lib.ListN.{length, take, drop, get_or, length-append, length-drop, drop_of_length-le, take-append-drop}
@@ -12,7 +12,8 @@ use Rattle.octets.specs.Text.{Text, same}
 use Rattle.octets.specs.Part.{all_octets}
 use Rattle.octets.specs.Number.{number, bytes, of_numbers}
 use Rattle.octets.proofs.Comparing.{drop_step, all_take, all_drop, equal_same, differs_same, same_length}
-use Rattle.octets.proofs.Numbers.{length_bytes, bytes_number, number_bytes_below}
+use Rattle.octets.proofs.Numbers.{length_bytes, bytes_number, number_bytes_below, number_fits}
+use Rattle.octets.proofs.Writing.{rest_is}
 
 -- n bytes, one by one
 abbrev picked : ℕ → ℕ → Text → Text
@@ -80,6 +81,21 @@ module _ (s : Text) (l : length s ≡ 16) (o : all_octets s ≡ true) where
             differs_same s (of_numbers a b) (λ e. true≢false (sym (eq-eqb (number y) b (second_of e)) ∙ j))
         go false i d j =
             differs_same s (of_numbers a b) (λ e. true≢false (sym (eq-eqb (number x) a (first_of e)) ∙ i))
+
+    -- the same of the numbers as they are read from the halves
+    module _ {v : ℕ} (i : v ≡ number x % 2 ^ 64) where
+      first_read : v ≡ number x
+      first_read = i ∙ number_fits x (all_take _ 8 s o) (omega (arith, front_long))
+
+      pub first_differs : eqb v a ≡ false → same s (of_numbers a b) ≡ false
+      first_differs e = same_by_numbers ∙ ap (λ (n : ℕ). eqb n a && eqb (number y) b) (sym first_read) ∙ rw e
+
+      pub same_halves : {w : ℕ} → w ≡ number (take (length s - 8) y) % 2 ^ 64 → eqb v a ≡ true
+          → same s (of_numbers a b) ≡ eqb w b
+      same_halves {w} j e =
+          let k : w ≡ number y =
+          j ∙ ap (λ (t : Text). number t % 2 ^ 64) (rest_is 8 s) ∙ number_fits y (all_drop _ 8 s o) (omega (arith, back_long)) in
+          same_by_numbers ∙ ap (λ (n : ℕ). eqb n a && eqb (number y) b) (sym first_read) ∙ rw (e, ← k)
 
 -- another number of bytes
 pub other_length : (s : Text) (a b : ℕ) → (length s ≡ 16 → ⊥) → same s (of_numbers a b) ≡ false

@@ -1,6 +1,5 @@
 -- Parts of a text, and texts that are bytes.
-use Rattle.std.specs.Prelude.{Bool, true, false, cond, [], ◌∷◌, ℕ, zero, suc, eqb, ltb, take, drop}
-use Rattle.std.proofs.Math.Option.{Option, none, some}
+use Rattle.std.specs.Prelude.{Bool, true, false, cond, [], ◌∷◌, ℕ, zero, suc, eqb, ltb, take, drop, Option, None, Some}
 use Rattle.octets.specs.Text.{Text, blank, all}
 use Rattle.octets.specs.declared.Span.{Span}
 
@@ -23,8 +22,8 @@ nowhere = record { at = zero; length = zero }
 
 -- it is there
 abbrev pub found : {A : Type 0} → Option A → Bool
-found none = false
-found (some a) = true
+found None = false
+found (Some a) = true
 
 -- every element is a byte
 abbrev pub all_octets : Text → Bool

@@ -1,7 +1,6 @@
 -- What a call that may reply makes of one partner's entry, on every entry and in every room: the turns of crate `calls`
 -- where the entry is as a legal table has it (13) and there is room for the reply (6).
-use Rattle.std.specs.Prelude.{◌≡◌, Bool, true, not, ◌&&◌, ℕ, ◌≤◌, ltb}
-use Rattle.std.proofs.Math.Option.{Option, none, some}
+use Rattle.std.specs.Prelude.{Bool, not, ◌&&◌, ℕ, ltb, Option, None, Some}
 use Rattle.octets.specs.Text.{Text, is_name}
 use Rattle.csm.specs.Message.{Reading, read}
 use Rattle.partner.specs.declared.Entry.{Entry}
@@ -16,11 +15,6 @@ use Rattle.calls.specs.Build as building
 unfoldable pub sound : Text → Entry → Bool
 sound own e = is_name own && legal e
 
--- neither 13 nor 6: these, and room for a reply
-pub record Ready (own : Text) (e : Entry) (room : ℕ) : Type 0 where
-  pub lawful : sound own e ≡ true
-  pub roomy : 256 ≤ room
-
 -- 13, then 6, then the turn
 unfoldable pub guarded : Text → Entry → ℕ → Turn → Turn
 guarded own e room turn =
@@ -29,8 +23,8 @@ guarded own e room turn =
 
 -- 1: text not a message of this paper
 unfoldable pub receive_read : Text → Entry → Text → Option Reading → Turn
-receive_read own e text none = refused e 1
-receive_read own e text (some r) = by_class.receive own e text r.body
+receive_read own e text None = refused e 1
+receive_read own e text (Some r) = by_class.receive own e text r.body
 
 -- receive, build a KSM, build an RSI
 unfoldable pub receive : Text → Entry → ℕ → Text → Turn

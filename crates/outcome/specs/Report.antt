@@ -1,14 +1,20 @@
 -- What the code gives of an outcome, as one flat report: the paper's number of the answer, the letters, the reply's length
 -- and what is told, part by part (document 01, "Answers").
-use Rattle.std.specs.Prelude.{Bool, false, cond, ◌++◌, ℕ, ◌+◌, ltb, length, drop}
-use Rattle.std.proofs.Math.Option.{Option, none, some}
+use Rattle.std.specs.Prelude.{false, cond, ◌++◌, ℕ, ◌+◌, ltb, length, drop, Option, None, Some, unwrap_or, Result, Ok, Err}
 use Rattle.octets.specs.Text.{Text}
 use Rattle.octets.specs.Number.{copies}
 use Rattle.octets.specs.Part.{found}
 use Rattle.calls.specs.declared.Date.{Date}
+use Rattle.partner.specs.declared.Entry.{Entry}
+use Rattle.calls.specs.declared.Refusal.{Refusal}
+use Rattle.calls.specs.Refusal.{number}
 use Rattle.calls.specs.Outcome.{Outcome, Turn, Told, nothing, service, keys, confirmation, failure}
 use Rattle.outcome.specs.declared.Report.{Report}
-use Rattle.outcome.specs.declared.Turned.{Turned}
+use Rattle.outcome.specs.declared.Told as code
+use Rattle.outcome.specs.declared.Told.TheVariants.{Nothing, Service, Keys, Confirmation, Failure}
+use Rattle.outcome.specs.declared.Given.{Given}
+use Rattle.outcome.specs.declared.Given.TheVariants.{Done, Complaint}
+use Rattle.outcome.specs.declared.Turned as whole
 
 -- ---- what is told, part by part
 
@@ -41,31 +47,31 @@ letters_told ours (failure letters) = letters
 
 -- the IV and the date of a KSM, each with a presence of its own
 abbrev pub iv_told : Told → Option ℕ
-iv_told nothing = none
-iv_told (service place) = none
+iv_told nothing = None
+iv_told (service place) = None
 iv_told (keys iv edk) = iv
-iv_told confirmation = none
-iv_told (failure letters) = none
+iv_told confirmation = None
+iv_told (failure letters) = None
 
 abbrev pub date_told : Told → Option Text
-date_told nothing = none
-date_told (service place) = none
+date_told nothing = None
+date_told (service place) = None
 date_told (keys iv edk) = edk
-date_told confirmation = none
-date_told (failure letters) = none
+date_told confirmation = None
+date_told (failure letters) = None
 
 -- a number, or zero where there is none
 abbrev pub or_zero : Option ℕ → ℕ
-or_zero none = 0
-or_zero (some n) = n
+or_zero None = 0
+or_zero (Some n) = n
 
 -- the digits of a date, or zeros where there is none
 abbrev pub no_date : Date
 no_date = record { digits = copies 12 0 }
 
 abbrev pub date_of : Option Text → Date
-date_of none = no_date
-date_of (some w) = record { digits = w }
+date_of None = no_date
+date_of (Some w) = record { digits = w }
 
 -- ---- the whole
 
@@ -82,6 +88,11 @@ report o = record {
   date = date_of (date_told o.told);
 }
 
+-- one partner's entry after a call, and the report of it
+pub record Turned : Type 0 where
+  pub entry : Entry
+  pub report : Report
+
 unfoldable pub turned : Turn → Turned
 turned t = record { entry = t.entry; report = report t.outcome }
 
@@ -89,7 +100,7 @@ turned t = record { entry = t.entry; report = report t.outcome }
 unfoldable pub replied : Outcome → Text → Text
 replied o l = o.reply ++ drop (length o.reply) l
 
--- ---- reports by the length of a reply, where the code has no more of it
+-- ---- what the code gives: it has of a reply its length
 
 -- nothing is told: the answer, our letters, the length
 abbrev pub plain : ℕ → ℕ → ℕ → Report
@@ -105,16 +116,35 @@ plain answer letters n = record {
   date = no_date;
 }
 
--- an accepted KSM, before its reply is written
-abbrev pub keys_told : Bool → ℕ → Bool → Date → Report
-keys_told vector iv dated date = record {
+-- 0: the letters of an ESM, the length of the reply, the class, the service, IV and date
+abbrev pub telling : ℕ → ℕ → ℕ → ℕ → Option ℕ → Option Date → Report
+telling letters n class wanted iv date = record {
   answer = 0;
-  letters = 0;
-  length = 0;
-  class = 2;
-  service = 0;
-  vector = vector;
-  iv = iv;
-  dated = dated;
-  date = date;
+  letters = letters;
+  length = n;
+  class = class;
+  service = wanted;
+  vector = found iv;
+  iv = or_zero iv;
+  dated = found date;
+  date = unwrap_or date no_date;
 }
+
+-- 0, the length of the reply, and what is told
+abbrev pub told_of : ℕ → code.Told → Report
+told_of n Nothing = plain 0 0 n
+told_of n (Service place) = telling 0 n 1 (place + 1) None None
+told_of n (Keys iv date) = telling 0 n 2 0 iv date
+told_of n Confirmation = telling 0 n 3 0 None None
+told_of n (Failure letters) = telling letters n 4 0 None None
+
+-- a refusal: every other part is zero or empty; 4: the letters, and the length of the ESM; 0, and what is told
+abbrev pub report_of : Result Given Refusal → Report
+report_of (Err r) = plain (number r) 0 0
+report_of (Ok (Complaint letters n)) = plain 4 letters n
+report_of (Ok (Done n told)) = told_of n told
+
+-- with a refusal the entry is as it was
+abbrev pub turned_of : Entry → Result whole.Turned Refusal → Turned
+turned_of e (Err r) = record { entry = e; report = report_of (Err r) }
+turned_of e (Ok t) = record { entry = t.entry; report = report_of (Ok t.given) }

@@ -1,12 +1,13 @@
-// What a call gives, in code: its answer and what goes with it, and one partner's entry after it.
+// What a call gives, in code: what it does where it is not refused, and one partner's entry after it; and the flat report of it.
 #![tactic(auto)]
 
-ghost use Rattle.std.specs.Prelude.{◌≡◌, []};
-ghost use Rattle.calls.specs.Outcome as outcomes;
+ghost use Rattle.std.specs.Prelude.{◌≡◌, true, false, IfOk, IfErr};
+ghost use Rattle.calls.specs.declared.Refusal.TheVariants.{Illegal};
+ghost use Rattle.outcome.specs.declared.Told.TheVariants.{Service, Keys, Confirmation, Failure};
 ghost use Rattle.outcome.specs.Report as report;
 ghost use Rattle.outcome.specs.Acts as acts;
 
-use calls::Date;
+use calls::{Date, Refusal};
 use partner::Entry;
 
 // The classes, as a report numbers them; 0 is none.
@@ -18,9 +19,36 @@ pub const RSM: u8 = 3;
 
 pub const ESM: u8 = 4;
 
+// What is told besides: of an RSI the service wanted, by its place among the twelve contents of SVR, of a KSM IV and date, of
+// an ESM its letters.
+#[derive(Clone, Copy)]
+pub enum Told {
+    Nothing,
+    Service(u8),
+    Keys { iv: Option<u64>, date: Option<Date> },
+    Confirmation,
+    Failure(u64),
+}
+
+// What a call gives that is not refused: 0, with the length of its reply; or 4, the letters of an error that was found, and the
+// length of the ESM.
+#[derive(Clone, Copy)]
+pub enum Given {
+    Done { length: usize, told: Told },
+    Complaint { letters: u64, length: usize },
+}
+
+// One partner's entry after a call that is not refused, and what the call gives.
+#[derive(Clone, Copy)]
+pub struct Turned {
+    pub entry: Entry,
+    pub given: Given,
+}
+
 // A call's answer, the letters of an error, ours or those of an ESM that was taken, the length of its reply; the class of
 // the message read, 1 an RSI, 2 a KSM, 3 an RSM, 4 an ESM, else 0; the service that an RSI wants, from 1 on, else 0; IV and
 // date of a KSM, each with a presence of its own, zero where there is none.
+// Flat, with numbers: C's report of 32 bytes and the lent row are told by it (card/specs/Over, row/specs/Calls, host/specs/Report).
 #[derive(Clone, Copy)]
 pub struct Report {
     pub answer: u32,
@@ -32,20 +60,6 @@ pub struct Report {
     pub iv: u64,
     pub dated: bool,
     pub date: Date,
-}
-
-// One partner's entry after a call, and what the call gives.
-#[derive(Clone, Copy)]
-pub struct Turned {
-    pub entry: Entry,
-    pub report: Report,
-}
-
-// No date.
-pub fn no_date() -> Date
-    ensures { result ≡ report.no_date }
-{
-    Date { digits: [0; 12] }
 }
 
 // The answer, the letters of our own error and the length of the reply; nothing is told.
@@ -61,98 +75,98 @@ fn plain(answer: u32, letters: u64, length: usize) -> Report
         vector: false,
         iv: 0,
         dated: false,
-        date: no_date(),
+        date: Date { digits: [0; 12] },
     }
 }
 
-// A refusal: every other part is zero or empty.
-pub fn refusal(answer: u32) -> Report
-    ensures { result ≡ report.report (outcomes.refusal answer) }
+// An RSI: the service wanted, the twelve from 1 on.
+fn told_service(length: usize, place: u8) -> Report
+    ensures { result ≡ report.told_of length (Service place) }
 {
-    plain(answer, 0, 0)
-}
-
-// The answer n, the entry as it was.
-pub fn refused(e: Entry, answer: u32) -> Turned
-    ensures { result ≡ report.turned (outcomes.refused e answer) }
-{
-    Turned {
-        entry: e,
-        report: refusal(answer),
+    Report {
+        class: RSI,
+        service: place as u64 + 1,
+        ..plain(0, 0, length)
     }
-}
-
-// 4: the letters, and the length of the ESM.
-pub fn complaint(letters: u64, length: usize) -> Report
-    ensures { result ≡ report.plain 4 letters length }
-{
-    plain(4, letters, length)
-}
-
-// ---- 0, and what is told
-
-// Nothing: the length of the reply.
-pub fn told_nothing(length: usize) -> Report
-    ensures { result ≡ report.plain 0 0 length }
-{
-    plain(0, 0, length)
-}
-
-// The number of a service, by its place among the twelve contents of SVR.
-fn service_number(place: u64) -> u64
-    ensures { result ≡ report.service_number place }
-{
-    if place < 12 {
-        return place + 1;
-    }
-    0
-}
-
-// An RSI: the service wanted.
-pub fn told_service(place: u64) -> Report
-    ensures { result ≡ report.report (outcomes.success [] (outcomes.service place)) }
-{
-    let mut r = told_nothing(0);
-    r.class = RSI;
-    r.service = service_number(place);
-    r
 }
 
 // A KSM: its IV, zero where there is none, and its date, zeros where there is none.
-pub fn told_keys(vector: bool, iv: u64, dated: bool, date: Date) -> Report
-    ensures { result ≡ report.keys_told vector iv dated date }
+fn told_keys(length: usize, iv: Option<u64>, date: Option<Date>) -> Report
+    ensures { result ≡ report.told_of length (Keys iv date) }
 {
-    let mut r = told_nothing(0);
-    r.class = KSM;
-    r.vector = vector;
-    r.iv = iv;
-    r.dated = dated;
-    r.date = date;
-    r
+    let none = plain(0, 0, length);
+    Report {
+        class: KSM,
+        vector: iv.is_some(),
+        iv: iv.unwrap_or(0),
+        dated: date.is_some(),
+        date: date.unwrap_or(none.date),
+        ..none
+    }
 }
 
 // An RSM: it confirms.
-pub fn told_confirmation() -> Report
-    ensures { result ≡ report.report (outcomes.success [] outcomes.confirmation) }
+fn told_confirmation(length: usize) -> Report
+    ensures { result ≡ report.told_of length Confirmation }
 {
-    let mut r = told_nothing(0);
-    r.class = RSM;
-    r
+    Report {
+        class: RSM,
+        ..plain(0, 0, length)
+    }
 }
 
 // An ESM: its letters.
-pub fn told_failure(letters: u64) -> Report
-    ensures { result ≡ report.report (outcomes.success [] (outcomes.failure letters)) }
+fn told_failure(length: usize, letters: u64) -> Report
+    ensures { result ≡ report.told_of length (Failure letters) }
 {
-    let mut r = told_nothing(0);
-    r.class = ESM;
-    r.letters = letters;
-    r
+    Report {
+        class: ESM,
+        ..plain(0, letters, length)
+    }
+}
+
+// The flat report of what a call gives. Of a refusal every other part is zero or empty.
+pub fn report_of(given: Result<Given, Refusal>) -> Report
+    ensures { result ≡ report.report_of given }
+{
+    match given {
+        Err(refusal) => plain(refusal.number(), 0, 0),
+        Ok(Given::Complaint { letters, length }) => plain(4, letters, length),
+        Ok(Given::Done { length, told }) => match told {
+            Told::Nothing => plain(0, 0, length),
+            Told::Service(place) => told_service(length, place),
+            Told::Keys { iv, date } => told_keys(length, iv, date),
+            Told::Confirmation => told_confirmation(length),
+            Told::Failure(letters) => told_failure(length, letters),
+        },
+    }
 }
 
 // Whether our identity and the entry are as a legal table has them.
-pub fn is_sound(own: &[u8], e: Entry) -> bool
-    ensures { result ≡ acts.sound own.now e }
+#[tactic(auto, unfolding(crate::specs::Acts::sound))]
+pub fn is_sound(own: &[u8], e: &Entry) -> bool
+    ensures { result ≡ acts.sound own.now e.now }
 {
-    octets::is_name(own) && rules::legal(e)
+    octets::is_name(own) && rules::legal(*e)
+}
+
+// Our identity and the partner's entry, both as a legal table has them.
+#[derive(Clone, Copy)]
+pub struct Parties<'a> {
+    pub own: &'a [u8],
+    pub e: &'a Entry,
+    pub ghost sound: { acts.sound own.now e.now ≡ true },
+}
+
+impl<'a> Parties<'a> {
+    // 13 where one of them is not.
+    pub fn new(own: &'a [u8], e: &'a Entry) -> Result<Parties<'a>, Refusal>
+        ensures sound { IfOk result (λ p. (p.own ≡ own.entry) × (p.e ≡ e.entry)) }
+        ensures unsound { IfErr result (λ r. (r ≡ Illegal) × (acts.sound own.now e.now ≡ false)) }
+    {
+        if !is_sound(own, e) {
+            return Err(Refusal::Illegal);
+        }
+        Ok(Parties { own, e })
+    }
 }

@@ -1,6 +1,5 @@
 -- The partner table: our own identity and 64 slots (document 01, "Partner table" and the list of "Stored image").
-use Rattle.std.specs.Prelude.{Bool, true, cond, not, ◌&&◌, ◌||◌, List, [], ◌∷◌, ◌++◌, ℕ, zero, suc, eqb, length}
-use Rattle.std.proofs.Math.Option.{Option, none, some}
+use Rattle.std.specs.Prelude.{Bool, true, cond, not, ◌&&◌, ◌||◌, List, [], ◌∷◌, ◌++◌, ℕ, zero, suc, eqb, length, Option, None, Some}
 use Rattle.octets.specs.Text.{Text, same}
 use Rattle.octets.specs.Number.{copies}
 use Rattle.octets.specs.First.{Order, first}
@@ -76,8 +75,8 @@ broken t = first (rules t)
 
 -- the entry of a partner
 abbrev pub find : Text → List Entry → Option Entry
-find id [] = none
-find id (e ∷ slots) = cond (same e.identity.bytes id) (some e) (find id slots)
+find id [] = None
+find id (e ∷ slots) = cond (same e.identity.bytes id) (Some e) (find id slots)
 
 -- that partner's slot, and no other, given new contents
 abbrev pub put : Text → Entry → List Entry → List Entry
@@ -86,12 +85,12 @@ put id x (e ∷ slots) = cond (same e.identity.bytes id) (x ∷ slots) (e ∷ pu
 
 -- an entry in the lowest free slot; none where all are in use
 abbrev pub behind : Entry → Option (List Entry) → Option (List Entry)
-behind e none = none
-behind e (some slots) = some (e ∷ slots)
+behind e None = None
+behind e (Some slots) = Some (e ∷ slots)
 
 abbrev pub into_free_slot : Entry → List Entry → Option (List Entry)
-into_free_slot x [] = none
-into_free_slot x (e ∷ slots) = cond (is_empty e) (some (x ∷ slots)) (behind e (into_free_slot x slots))
+into_free_slot x [] = None
+into_free_slot x (e ∷ slots) = cond (is_empty e) (Some (x ∷ slots)) (behind e (into_free_slot x slots))
 
 -- a partner's slot emptied
 abbrev pub take_out : Text → List Entry → List Entry

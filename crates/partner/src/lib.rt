@@ -35,15 +35,25 @@ pub struct Name {
     pub bytes: [u8; 16],
 }
 
+// That of an unused key place or an empty slot.
+impl Default for Name {
+    ghost is_default = { λ n. n ≡ entry.zero_name };
+
+    fn default() -> Name {
+        Name { bytes: [0; 16] }
+    }
+}
+
 // A data key, with a name or 16 blanks.
-#[derive(Clone, Copy)]
+#[derive(Clone, Copy, Default)]
 pub struct DataKey {
     pub key: u64,
     pub name: Name,
 }
 
 // A key set: how many keys it has, and two places for them.
-#[derive(Clone, Copy)]
+// The count stays a number: `names_formed` and `unused_zero` of specs/Legal judge a set of more than two, and the answer is 13.
+#[derive(Clone, Copy, Default)]
 pub struct KeySet {
     pub count: u8,
     pub first: DataKey,
@@ -51,7 +61,8 @@ pub struct KeySet {
 }
 
 // A top key as it is kept: its name, its form, the key or the two halves of a pair.
-#[derive(Clone, Copy)]
+// The form stays a number: `form_clean` of specs/Legal judges one that is no form, and the answer is 13.
+#[derive(Clone, Copy, Default)]
 pub struct TopKey {
     pub name: Name,
     pub form: u8,
@@ -60,7 +71,8 @@ pub struct TopKey {
 }
 
 // What we send: the next send count, the phase, the outgoing keys.
-#[derive(Clone, Copy)]
+// The phase stays a number: `count_in_phase` of specs/Legal judges one that is no phase, and the answer is 13.
+#[derive(Clone, Copy, Default)]
 pub struct Sending {
     pub next: u32,
     pub phase: u8,
@@ -68,14 +80,14 @@ pub struct Sending {
 }
 
 // What we receive: the expected count, the incoming keys.
-#[derive(Clone, Copy)]
+#[derive(Clone, Copy, Default)]
 pub struct Receiving {
     pub expected: u32,
     pub incoming: KeySet,
 }
 
 // An entry of the partner table; an empty slot is zero throughout.
-#[derive(Clone, Copy)]
+#[derive(Clone, Copy, Default)]
 pub struct Entry {
     pub identity: Name,
     pub top: TopKey,
@@ -83,7 +95,7 @@ pub struct Entry {
     pub receiving: Receiving,
 }
 
-// ---- names and keys
+// ---- names and keys; each drops something, as `From` never does: what is past 16 bytes, the names of the keys
 
 // A text filled with blanks to 16 bytes.
 pub fn name_of(w: &[u8]) -> Name
@@ -91,10 +103,11 @@ pub fn name_of(w: &[u8]) -> Name
 {
     let mut bytes = [b' '; 16];
     octets::copy(&mut bytes, w);
-    Name { bytes: bytes }
+    Name { bytes }
 }
 
 // The top key, single or pair.
+#[tactic(auto, unfolding(crate::specs::Entry::top_of))]
 pub fn top_of(k: TopKey) -> Top
     ensures { result ≡ entry.top_of k }
 {
@@ -106,39 +119,24 @@ pub fn top_of(k: TopKey) -> Top
 }
 
 // The data keys of a set.
+#[tactic(auto, unfolding(crate::specs::Entry::keys_in, crate::specs::Entry::places))]
 pub fn data_keys(set: KeySet) -> DataKeys
     ensures { listed result ≡ entry.keys_in set }
 {
-    let first = set.first;
-    let second = set.second;
-    if set.count == 0 {
-        return DataKeys::None;
+    match set.count {
+        0 => DataKeys::None,
+        1 => DataKeys::One(set.first.key),
+        _ => DataKeys::Two(set.first.key, set.second.key),
     }
-    if set.count == 1 {
-        return DataKeys::One(first.key);
-    }
-    DataKeys::Two(first.key, second.key)
 }
 
-// An unused key place.
-fn unused() -> DataKey
-    ensures { result ≡ entry.unused }
-{
-    DataKey {
-        key: 0,
-        name: Name { bytes: [0; 16] },
-    }
-}
+// ---- key sets and an empty slot; what is unused is zero
 
 // A set of no keys.
 pub fn no_keys() -> KeySet
     ensures { result ≡ entry.no_keys }
 {
-    KeySet {
-        count: 0,
-        first: unused(),
-        second: unused(),
-    }
+    KeySet::default()
 }
 
 // A set of one key.
@@ -148,7 +146,7 @@ pub fn one_key(k: DataKey) -> KeySet
     KeySet {
         count: 1,
         first: k,
-        second: unused(),
+        ..no_keys()
     }
 }
 
@@ -164,27 +162,9 @@ pub fn two_keys(k: DataKey, l: DataKey) -> KeySet
 }
 
 // An empty slot.
+#[tactic(auto, unfolding(crate::specs::Entry::empty))]
 pub fn empty() -> Entry
     ensures { result ≡ entry.empty }
 {
-    let name = Name { bytes: [0; 16] };
-    let keys = no_keys();
-    Entry {
-        identity: name,
-        top: TopKey {
-            name: name,
-            form: 0,
-            left: 0,
-            right: 0,
-        },
-        sending: Sending {
-            next: 0,
-            phase: 0,
-            outgoing: keys,
-        },
-        receiving: Receiving {
-            expected: 0,
-            incoming: keys,
-        },
-    }
+    Entry::default()
 }

@@ -10,3 +10,6 @@ read κs a x y v w p q = (alike p q, refl)
 
 pub covered : OneOutcome contract.covered.ended fn.covered.Reads.Post
 covered κs a x y v w p q = (alike p q, refl)
+
+pub head : OneOutcome contract.Message.head.ended fn.Message.head.Reads.Post
+head κs a x y v w p q = (alike p q, refl)

@@ -1,11 +1,13 @@
 -- For callers: what an answer of `read` says of the text's reading.
-use mathlib.Core.Path.{◌≡◌, refl, subst}
-use mathlib.Core.Option.{Option, none, some}
+use Rattle.std.specs.Prelude.{Option, None, Some}
+use mathlib.Core.Path.{◌≡◌, refl, subst, sym, ap, ◌∙◌}
 use Rattle.octets.specs.Text.{Text}
 use Rattle.csm.specs.Fields as csm
 use Rattle.csm.specs.Message.{Body, rsi, ksm, rsm, esm, option, Reading, read}
 use Rattle.csm.specs.Message as csm_message
-use Rattle.reader.specs.Seen.{head_seen, body_place, rsi_seen, ksm_seen, rsm_seen, esm_seen, option_seen, body_seen, seen}
+use Rattle.reader.specs.Seen.{head_seen, body_place, rsi_seen, ksm_seen, rsm_seen, esm_seen, option_seen, body_seen}
+use Rattle.reader.specs.Seen.{message_seen, seen, head_in}
+use Rattle.reader.specs.declared.Head.{Head}
 use Rattle.reader.specs.declared.Rsi.{Rsi}
 use Rattle.reader.specs.declared.Ksm.{Ksm}
 use Rattle.reader.specs.declared.Rsm.{Rsm}
@@ -18,7 +20,7 @@ use Rattle.reader.specs.declared.Message.TheVariants as message
 pub record ReadAs {A M : Type 0} (f : A → Body) (of : Reading → A → M) (t : Text) (m : M) : Type 0 where
   pub reading : Reading
   pub value : A
-  pub is : read t ≡ some reading
+  pub is : read t ≡ Some reading
   pub body : reading.body ≡ f value
   pub seen : of reading value ≡ m
 
@@ -43,19 +45,19 @@ abbrev pub option_of : Reading → csm.Class × Text → Rest
 option_of q a = option_seen (head_seen q) (body_place q) a.0 a.1
 
 -- what an answer says of the text
-abbrev Said : Text → Message → Type 0
-Said t message.Nothing = read t ≡ none
-Said t (message.Rsi m) = ReadAs rsi rsi_of t m
-Said t (message.Ksm m) = ReadAs ksm ksm_of t m
-Said t (message.Rsm m) = ReadAs rsm rsm_of t m
-Said t (message.Esm m) = ReadAs esm esm_of t m
-Said t (message.Option m) = ReadAs option_as option_of t m
+abbrev Said : Text → Option Message → Type 0
+Said t None = read t ≡ None
+Said t (Some (message.Rsi m)) = ReadAs rsi rsi_of t m
+Said t (Some (message.Ksm m)) = ReadAs ksm ksm_of t m
+Said t (Some (message.Rsm m)) = ReadAs rsm rsm_of t m
+Said t (Some (message.Esm m)) = ReadAs esm esm_of t m
+Said t (Some (message.Option m)) = ReadAs option_as option_of t m
 
-said : (t : Text) (m : Message) → seen (read t) ≡ m → Said t m
+said : (t : Text) (m : Option Message) → seen (read t) ≡ m → Said t m
 unfolding seen
 said t m e = subst (Said t) e (go (read t) refl)
   where
-    by : (q : Reading) → read t ≡ some q → (b : Body) → q.body ≡ b → Said t (body_seen (head_seen q) (body_place q) b)
+    by : (q : Reading) → read t ≡ Some q → (b : Body) → q.body ≡ b → Said t (Some (body_seen (head_seen q) (body_place q) b))
     by q i (rsi r) k = record { reading = q; value = r; is = i; body = k; seen = refl }
     by q i (ksm r) k = record { reading = q; value = r; is = i; body = k; seen = refl }
     by q i (rsm r) k = record { reading = q; value = r; is = i; body = k; seen = refl }
@@ -63,23 +65,46 @@ said t m e = subst (Said t) e (go (read t) refl)
     by q i (option c w) k = record { reading = q; value = (c, w); is = i; body = k; seen = refl }
 
     go : (o : Option Reading) → read t ≡ o → Said t (seen o)
-    go none i = i
-    go (some q) i = by q i q.body refl
+    go None i = i
+    go (Some q) i = by q i q.body refl
 
-pub nothing_back : (t : Text) → seen (read t) ≡ message.Nothing → read t ≡ none
-nothing_back t = said t message.Nothing
+pub none_back : (t : Text) → seen (read t) ≡ None → read t ≡ None
+none_back t = said t None
 
-pub rsi_back : (t : Text) (m : Rsi) → seen (read t) ≡ message.Rsi m → ReadAs rsi rsi_of t m
-rsi_back t m = said t (message.Rsi m)
+pub rsi_back : (t : Text) (m : Rsi) → seen (read t) ≡ Some (message.Rsi m) → ReadAs rsi rsi_of t m
+rsi_back t m = said t (Some (message.Rsi m))
 
-pub ksm_back : (t : Text) (m : Ksm) → seen (read t) ≡ message.Ksm m → ReadAs ksm ksm_of t m
-ksm_back t m = said t (message.Ksm m)
+pub ksm_back : (t : Text) (m : Ksm) → seen (read t) ≡ Some (message.Ksm m) → ReadAs ksm ksm_of t m
+ksm_back t m = said t (Some (message.Ksm m))
 
-pub rsm_back : (t : Text) (m : Rsm) → seen (read t) ≡ message.Rsm m → ReadAs rsm rsm_of t m
-rsm_back t m = said t (message.Rsm m)
+pub rsm_back : (t : Text) (m : Rsm) → seen (read t) ≡ Some (message.Rsm m) → ReadAs rsm rsm_of t m
+rsm_back t m = said t (Some (message.Rsm m))
 
-pub esm_back : (t : Text) (m : Esm) → seen (read t) ≡ message.Esm m → ReadAs esm esm_of t m
-esm_back t m = said t (message.Esm m)
+pub esm_back : (t : Text) (m : Esm) → seen (read t) ≡ Some (message.Esm m) → ReadAs esm esm_of t m
+esm_back t m = said t (Some (message.Esm m))
 
-pub option_back : (t : Text) (m : Rest) → seen (read t) ≡ message.Option m → ReadAs option_as option_of t m
-option_back t m = said t (message.Option m)
+pub option_back : (t : Text) (m : Rest) → seen (read t) ≡ Some (message.Option m) → ReadAs option_as option_of t m
+option_back t m = said t (Some (message.Option m))
+
+-- any answer's head is its reading's
+pub record HeadAs (t : Text) (h : Head) : Type 0 where
+  pub reading : Reading
+  pub is : read t ≡ Some reading
+  pub head : head_seen reading ≡ h
+
+pub head_back : (t : Text) (m : Message) → seen (read t) ≡ Some m → HeadAs t (head_in m)
+unfolding seen
+head_back t m e = go (read t) refl e
+  where
+    by : (q : Reading) (b : Body) → head_in (body_seen (head_seen q) (body_place q) b) ≡ head_seen q
+    by q (rsi r) = refl
+    by q (ksm r) = refl
+    by q (rsm r) = refl
+    by q (esm r) = refl
+    by q (option c w) = refl
+
+    go : (o : Option Reading) → read t ≡ o → seen o ≡ Some m → HeadAs t (head_in m)
+    go None i k = cc
+    go (Some q) i k =
+        let j : message_seen q ≡ m = cc in
+        record { reading = q; is = i; head = sym (by q q.body) ∙ ap head_in j }

@@ -1,8 +1,8 @@
 -- What stands at the spans of a row: the texts of its values.
+use Rattle.std.specs.Prelude.{Option, None, Some, option_map}
 use mathlib.Core.Path.{◌≡◌, refl, sym, ap, ◌∙◌}
 use mathlib.Core.Bool.{Bool, true, false, cond}
 use mathlib.Core.List.{[], ◌∷◌, ◌++◌, append_assoc, append-nil}
-use mathlib.Core.Option.{Option, none, some}
 use Prim.Native.Nat.{ℕ, ◌+◌, ◌-◌}
 use native.Mathlib.Omega.{arith}
 use lib.ListN.{length, take, drop, length-append, length-drop, take-append-drop}
@@ -10,16 +10,16 @@ use lib.Seq.{drop-drop, drop_at, take_at}
 use Rattle.octets.specs.Text.{Text, ascii, blank, dot}
 use Rattle.octets.specs.Part.{part}
 use Rattle.octets.specs.declared.Span.{Span}
-use Rattle.csm.specs.Fields.{Field, Contents, field, kd, named, sub, mark, subfields, hex_text}
+use Rattle.csm.specs.Fields.{Field, Contents, tag, field, kd, named, sub, mark, subfields, hex_text}
 use Rattle.csm.specs.Fields as csm
 use Rattle.csm.specs.Message.{Row, one, opt, Values, fields, closed, head_row, head_of, Reading, print_body, print, read}
 use Rattle.csm.specs.Covered.{covered_part, mac_of}
 use Rattle.csm.proofs.CoveredLaws.{mac_end, mac_end_length, sealed_text}
 use Rattle.csm.proofs.NumberLaws.{hex_length}
 use Rattle.csm.proofs.MessageLaws.{read_back}
-use Rattle.fields.specs.Seen.{inner, name_at, kd_of}
-use Rattle.reader.specs.Seen.{span_at, next_at, Spans, spans, row_end, body_place, covered_span}
-use Rattle.reader.specs.Claims.{text_or_empty, KdParts}
+use Rattle.fields.specs.Seen.{inner, span_of, name_at, kd_of}
+use Rattle.reader.specs.Seen.{next_at, row_end, body_place, covered_span}
+use Rattle.reader.specs.Claims.{KdParts}
 use Rattle.reader.proofs.RowLaws.{field_stands}
 
 -- ---- the one law: a text behind a front stands at the front's length
@@ -41,20 +41,29 @@ part_front s p w e =
 
 -- ---- a row
 
--- at each span of a row stand the contents of its field
-abbrev pub Parts : Text → (rs : Row) → Spans rs → Values rs → Type 0
-Parts s [] u v = Unit {0}
-Parts s (one f ∷ rs) (p, ps) (a, v) = (part s p ≡ inner f a) × Parts s rs ps v
-Parts s (opt f ∷ rs) (p, ps) (o, v) = (part s p ≡ text_or_empty (inner f) o) × Parts s rs ps v
+-- where a field's contents stand
+abbrev pub span_at : (f : Field) → ℕ → Contents f → Span
+span_at f at a = span_of (inner f) at (tag f) a
+
+-- at the span of a field stand its contents, if it is there
+abbrev pub PartAt : Text → (f : Field) → ℕ → Option (Contents f) → Type 0
+PartAt s f at None = Unit {0}
+PartAt s f at (Some a) = part s (span_at f at a) ≡ inner f a
+
+-- of each field of a row
+abbrev pub Parts : Text → (rs : Row) → ℕ → Values rs → Type 0
+Parts s [] at u = Unit {0}
+Parts s (one f ∷ rs) at (a, v) = PartAt s f at (Some a) × Parts s rs (next_at f at (Some a)) v
+Parts s (opt f ∷ rs) at (o, v) = PartAt s f at o × Parts s rs (next_at f at o) v
 
 -- and where it ends stands what follows it
 pub record Laid (s : Text) (rs : Row) (at : ℕ) (v : Values rs) (t : Text) : Type 0 where
-  pub parts : Parts s rs (spans rs at v) v
+  pub parts : Parts s rs at v
   pub rest : drop (row_end rs at v) s ≡ t
 
 module _ (s end t : Text) where
   field_part : (f : Field) (at : ℕ) (a : Contents f) (u : Text) → drop at s ≡ (field f).print a ++ u
-      → part s (span_at f at (some a)) ≡ inner f a
+      → part s (span_at f at a) ≡ inner f a
   unfolding part
   field_part f at a u e =
       ap (take (length (inner f a))) (field_stands f s at a u e).contents
@@ -62,29 +71,28 @@ module _ (s end t : Text) where
 
   pub laid : (rs : Row) (at : ℕ) (v : Values rs) → drop at s ≡ (fields rs end).print v ++ t
       → Laid s rs at v (end ++ t)
-  unfolding part
   laid [] at v e = record { parts = tt; rest = e }
   laid (one f ∷ rs) at (a, v) e =
       let u = (fields rs end).print v in
       let k = e ∙ append_assoc ((field f).print a) u t in
-      let r = laid rs (next_at f at (some a)) v (field_stands f s at a (u ++ t) k).rest in
+      let r = laid rs (next_at f at (Some a)) v (field_stands f s at a (u ++ t) k).rest in
       record { parts = (field_part f at a (u ++ t) k, r.parts); rest = r.rest }
-  laid (opt f ∷ rs) at (none, v) e =
+  laid (opt f ∷ rs) at (None, v) e =
       let r = laid rs at v e in
-      record { parts = (refl, r.parts); rest = r.rest }
-  laid (opt f ∷ rs) at (some a, v) e =
+      record { parts = (tt, r.parts); rest = r.rest }
+  laid (opt f ∷ rs) at (Some a, v) e =
       let u = (fields rs end).print v in
       let k = e ∙ append_assoc ((field f).print a) u t in
-      let r = laid rs (next_at f at (some a)) v (field_stands f s at a (u ++ t) k).rest in
+      let r = laid rs (next_at f at (Some a)) v (field_stands f s at a (u ++ t) k).rest in
       record { parts = (field_part f at a (u ++ t) k, r.parts); rest = r.rest }
 
 -- the head of a text that is read, and the body behind it
-pub head_laid : (t : Text) (q : Reading) → read t ≡ some q → Laid t head_row 4 (head_of q) (print_body q.body)
+pub head_laid : (t : Text) (q : Reading) → read t ≡ Some q → Laid t head_row 4 (head_of q) (print_body q.body)
 unfolding print
 head_laid t q e = laid t [] (print_body q.body) head_row 4 (head_of q) (ap (drop 4) (read_back t q e).1)
 
 -- the row of its body, to the closing parenthesis
-pub body_laid : (t : Text) (q : Reading) → read t ≡ some q → (rs : Row) (v : Values rs)
+pub body_laid : (t : Text) (q : Reading) → read t ≡ Some q → (rs : Row) (v : Values rs)
     → print_body q.body ≡ (closed rs).print v → Laid t rs (body_place q) v (ascii ")")
 body_laid t q e rs v b =
     laid t (ascii ")") [] rs (body_place q) v ((head_laid t q e).rest ∙ b ∙ sym (append-nil ((closed rs).print v)))
@@ -110,19 +118,19 @@ module _ (s : Text) (at : ℕ) where
   names_there : (x h : Text) → length h ≡ 16 → (p : Bool) (i j : Option Text)
       → drop at s ≡ (h ++ subfields p i j) ++ x
       → let n = cond p (at + 19) (at + 18) in
-      (part s (name_at n i) ≡ named i) × (part s (name_at (n + length (named i) + 1) j) ≡ named j)
-  unfolding part
-  names_there x h l p none none e = (refl, refl)
-  names_there x h l p (some v) none e =
-      (name_there h l p [] v x (simp append_assoc at e) (cond p (at + 19) (at + 18)) (omega arith), refl)
-  names_there x h l p none (some w) e = (
+      (option_map (part s) (option_map (name_at n) i) ≡ i)
+      × (option_map (part s) (option_map (name_at (n + length (named i) + 1)) j) ≡ j)
+  names_there x h l p None None e = (refl, refl)
+  names_there x h l p (Some v) None e =
+      (ap Some (name_there h l p [] v x (simp append_assoc at e) (cond p (at + 19) (at + 18)) (omega arith)), refl)
+  names_there x h l p None (Some w) e = (
     refl,
-    name_there h l p (dot ∷ []) w x (simp append_assoc at e) (cond p (at + 19) (at + 18) + 0 + 1) (omega arith),
+    ap Some (name_there h l p (dot ∷ []) w x (simp append_assoc at e) (cond p (at + 19) (at + 18) + 0 + 1) (omega arith)),
   )
-  names_there x h l p (some v) (some w) e = (
-    name_there h l p [] v (sub w ++ x) (simp append_assoc at e) (cond p (at + 19) (at + 18)) (omega arith),
-    name_there h l p (v ++ dot ∷ []) w x (e ∙ two h (sub (mark p)) v w x)
-        (cond p (at + 19) (at + 18) + length v + 1) (omega (arith, length-append v (dot ∷ []))),
+  names_there x h l p (Some v) (Some w) e = (
+    ap Some (name_there h l p [] v (sub w ++ x) (simp append_assoc at e) (cond p (at + 19) (at + 18)) (omega arith)),
+    ap Some (name_there h l p (v ++ dot ∷ []) w x (e ∙ two h (sub (mark p)) v w x)
+        (cond p (at + 19) (at + 18) + length v + 1) (omega (arith, length-append v (dot ∷ [])))),
   )
     where
       two : (h a v w x : Text)
@@ -138,7 +146,7 @@ module _ (s : Text) (at : ℕ) where
 
 -- ---- what a MAC covers, where nothing but its contents, a blank and the parenthesis stand behind `MAC/`
 
-pub covered_there : (t : Text) (q : Reading) (m : ℕ) → read t ≡ some q → mac_of q.body ≡ some m
+pub covered_there : (t : Text) (q : Reading) (m : ℕ) → read t ≡ Some q → mac_of q.body ≡ Some m
     → (p : Span) (n : ℕ) → n ≡ p.at + 9 + 1 → drop n t ≡ ascii ")" → part t (covered_span p) ≡ covered_part q
 covered_there t q m e k p n l r =
     let u = covered_part q in

@@ -1,34 +1,34 @@
 -- What each class is read as, from what the code has of its fields.
-use mathlib.Core.Path.{◌≡◌, refl, ap, ◌∙◌}
-use mathlib.Core.Bool.{Bool, true, false, cond, ◌&&◌, and-false}
+use Rattle.std.specs.Prelude.{Option, None, Some, option_map, is_some}
+use mathlib.Core.Path.{◌≡◌, refl, sym, ap, ◌∙◌}
+use mathlib.Core.Bool.{Bool, true, false, cond, not, ◌&&◌, and-false}
 use mathlib.Core.List.{[], ◌∷◌}
-use mathlib.Core.Option.{Option, none, some}
 use Prim.Native.Nat.{ℕ}
 use native.Mathlib.Omega.{arith}
+use Rattle.std.specs.Bool.{then_some}
 use lib.Dec.{leb}
 use lib.ListN.{length, drop}
 use borrow.Author.Tests.{lt-leb}
 use Rattle.octets.specs.Text.{Text, ascii, blank, same, is_run}
-use Rattle.octets.specs.Part.{found}
-use Rattle.csm.specs.Format.{bind, after, until, value, plain, upto, pre, as_form}
-use Rattle.csm.specs.Fields.{SVR, EDC, ERF, CTP, CTR, MAC, IV, EDK, NOS, KD, tag, field, nothing, svr, erf, count}
-use Rattle.csm.specs.Fields as csm
+use Rattle.octets.specs.declared.Span.{Span}
+use Rattle.csm.specs.Format.{bind, after, until, value, plain, upto, pre, as_form, whole}
+use Rattle.csm.specs.Fields.{RCV, ORG, SVR, EDC, ERF, CTP, CTR, MAC, IV, EDK, NOS, KD, tag, field, nothing, has_P}
 use Rattle.csm.specs.Message as csm_message
-use Rattle.csm.specs.Message.{closed, rsi, ksm, rsm, esm, counts_with_P}
+use Rattle.csm.specs.Message.{closed, rsi, ksm, rsm, esm, counts_with_P, Values}
 use Rattle.csm.specs.Message.{rsi_row, ksm_row, rsm_row, esm_row, rsi_record, rsi_values, ksm_record, ksm_values}
 use Rattle.csm.specs.Message.{rsm_record, rsm_values, esm_record, esm_values}
 use Rattle.csm.proofs.WordTests.{plain_value}
 use Rattle.csm.proofs.MessageLaws.{flagged_found}
-use Rattle.fields.specs.Seen.{taken, itself, inner, check_text, number_or_zero, number_at, key_at, place_of}
-use Rattle.fields.specs.declared.Place.{Place}
-use Rattle.fields.specs.declared.NumberField.{NumberField}
-use Rattle.fields.specs.declared.KeyField.{KeyField}
-use Rattle.reader.specs.Seen.{span_at, next_at, optional, body_seen}
-use Rattle.reader.specs.Stages.{taken_at, numeral_of, optional_of, agree, seen_as, rsi_body, ksm_body, rsm_body, esm_body}
+use Rattle.fields.specs.Seen.{taken, itself, inner, field_at, as_part}
+use Rattle.fields.specs.declared.Field.{Field}
+use Rattle.fields.specs.declared.Numeral.{Numeral}
+use Rattle.fields.specs.declared.Kd.{Kd}
+use Rattle.reader.specs.Seen.{shown_row, shown_at, next_at, rsi_with, ksm_with, rsm_with, esm_with}
+use Rattle.reader.specs.Stages.{taken_at, seen_at, names_at, agree, rsi_body, ksm_body, rsm_body, esm_body}
 use Rattle.reader.specs.declared.Head.{Head}
 use Rattle.reader.specs.declared.Message.{Message}
 use Rattle.reader.specs.declared.Message.TheVariants as message
-use Rattle.reader.proofs.RowLaws.{map, done, need, passing, row_walk, form_whole, such_whole}
+use Rattle.reader.proofs.RowLaws.{done, need, passing, row_walk, form_whole, row_seen, form_seen, such_whole}
 
 -- ---- the fields that the code asks for, each at a place
 
@@ -36,17 +36,17 @@ use Rattle.reader.proofs.RowLaws.{map, done, need, passing, row_walk, form_whole
 abbrev pub ended : Text → ℕ → Bool
 ended s at = same (drop at s) (ascii ")")
 
--- what a run of no characters has read behind `NOS/`, and what NOS has, stand at one place
-abbrev pub OnePlace : ℕ → Option (Text × Text) → Option (Unit {0} × Text) → Type 0
-OnePlace at o p = place_of itself at (tag NOS) (taken o) ≡ place_of (inner NOS) at (tag NOS) (taken p)
+-- what a run of no characters has read behind `NOS/`, and what NOS has, are shown alike
+abbrev pub OneField : ℕ → Option (Text × Text) → Option (Unit {0} × Text) → Type 0
+OneField at o p = field_at as_part itself at (tag NOS) (taken o) ≡ field_at as_part (inner NOS) at (tag NOS) (taken p)
 
 -- for both have empty contents
 pub empty_run : (at : ℕ) (u : Text)
-    → OnePlace at ((pre (tag NOS) (upto blank (plain (is_run 0 0 0)))).read u) ((field NOS).read u)
+    → OneField at ((pre (tag NOS) (upto blank (plain (is_run 0 0 0)))).read u) ((field NOS).read u)
 empty_run at u = behind (after (tag NOS) u)
   where
     word : (w t : Text)
-        → OnePlace at (bind (value (plain (is_run 0 0 0)) w) (λ a. some (a, t))) (bind (value nothing w) (λ a. some (a, t)))
+        → OneField at (bind (value (plain (is_run 0 0 0)) w) (λ a. Some (a, t))) (bind (value nothing w) (λ a. Some (a, t)))
     word [] t = refl
     word (x ∷ w) t =
         let more : leb (length (x ∷ w)) 0 ≡ false = lt-leb (length (x ∷ w)) 0 (omega arith) in
@@ -54,212 +54,164 @@ empty_run at u = behind (after (tag NOS) u)
         rw (plain_value (is_run 0 0 0) (x ∷ w), no_run)
 
     piece : (o : Option (Text × Text))
-        → OnePlace at (bind o (λ p. bind (value (plain (is_run 0 0 0)) p.0) (λ a. some (a, p.1))))
-        (bind o (λ p. bind (value nothing p.0) (λ a. some (a, p.1))))
-    piece none = refl
-    piece (some (w, t)) = word w t
+        → OneField at (bind o (λ p. bind (value (plain (is_run 0 0 0)) p.0) (λ a. Some (a, p.1))))
+        (bind o (λ p. bind (value nothing p.0) (λ a. Some (a, p.1))))
+    piece None = refl
+    piece (Some (w, t)) = word w t
 
     behind : (o : Option Text)
-        → OnePlace at (bind o (upto blank (plain (is_run 0 0 0))).read) (bind o (upto blank nothing).read)
-    behind none = refl
-    behind (some v) = piece (until blank v)
+        → OneField at (bind o (upto blank (plain (is_run 0 0 0))).read) (bind o (upto blank nothing).read)
+    behind None = refl
+    behind (Some v) = piece (until blank v)
+
+-- RCV and ORG
+pub names_step : (s : Text) (at : ℕ) {r o : Field Span} → r ≡ seen_at RCV s at → o ≡ seen_at ORG s r.next
+    → names_at s at ≡ bind r.contents (λ a. option_map (λ b. (record { rcv = a; org = b }, o.next)) o.contents)
+unfolding names_at
+names_step s at i j = rw (j, i)
 
 module _ (h : Head) (s : Text) where
-  -- SVR, CTP or CTR, ERF, MAC or EDC, NOS, KD, IV, EDK
-  abbrev pub svr_at : ℕ → NumberField
-  svr_at at = number_at svr.text at (tag SVR) (taken_at SVR s at)
-
-  abbrev pub ctp_at : ℕ → NumberField
-  ctp_at at = number_at count.text at (tag CTP) (taken_at CTP s at)
-
-  abbrev pub ctr_at : ℕ → NumberField
-  ctr_at at = number_at count.text at (tag CTR) (taken_at CTR s at)
-
-  abbrev pub erf_at : ℕ → NumberField
-  erf_at at = number_at erf.text at (tag ERF) (taken_at ERF s at)
-
-  abbrev pub mac_at : ℕ → NumberField
-  mac_at at = number_at check_text at (tag MAC) (taken_at MAC s at)
-
-  abbrev pub edc_at : ℕ → NumberField
-  edc_at at = number_at check_text at (tag EDC) (taken_at EDC s at)
-
-  abbrev pub nos_at : ℕ → Place
-  nos_at at = place_of (inner NOS) at (tag NOS) (taken_at NOS s at)
-
-  abbrev pub kd_field_at : ℕ → KeyField
-  kd_field_at at = key_at at (taken_at KD s at)
-
-  abbrev pub iv_at : ℕ → Place
-  iv_at at = place_of itself at (tag IV) (taken_at IV s at)
-
-  abbrev pub edk_at : ℕ → Place
-  edk_at at = place_of itself at (tag EDK) (taken_at EDK s at)
-
   -- ---- RSM
 
-  rsm_out : (at : ℕ) (o : Option ℕ) (b : Bool)
-      → seen_as h at rsm (map rsm_record (need o (done b)))
-      ≡ cond (found o && b) (message.Rsm (record { head = h; mac = record { value = number_or_zero o; span = span_at MAC at o } }))
-      message.Nothing
-  rsm_out at none b = refl
-  rsm_out at (some n) true = refl
-  rsm_out at (some n) false = refl
-
-  pub rsm_step : (at : ℕ) {m : NumberField} → m ≡ mac_at at
-      → (b : Bool) → m.place.there && ended s m.place.next ≡ b
+  pub rsm_step : (at : ℕ) {m : Field Numeral} → m ≡ seen_at MAC s at
       → rsm_body h at (drop at s)
-      ≡ cond b (message.Rsm (record { head = h; mac = numeral_of m })) message.Nothing
+      ≡ bind m.contents (λ a. then_some (ended s m.next) (message.Rsm (record { head = h; mac = a })))
   unfolding rsm_body
-  rsm_step at e b q =
-      rw (← q, e)
-      (ap (seen_as h at rsm)
-      (form_whole rsm_record rsm_values (closed rsm_row) (drop at s) ∙ ap (map rsm_record) (row_walk rsm_row s at))
-      ∙ rsm_out at (taken_at MAC s at) (ended s (next_at MAC at (taken_at MAC s at))))
+  rsm_step at {m} e =
+      form_seen rsm_record rsm_values (closed rsm_row) (drop at s) (λ r. message.Rsm (rsm_with h (shown_row rsm_row at (rsm_values r))))
+      ∙ row_seen rsm_row s at (λ v. message.Rsm (rsm_with h v))
+      ∙ ap (λ (f : Field Numeral). option_map (λ v. message.Rsm (rsm_with h v)) (need f.contents (done (ended s f.next)))) (sym e)
+      ∙ out m.contents (ended s m.next)
+    where
+      out : (o : Option Numeral) (b : Bool) → option_map (λ v. message.Rsm (rsm_with h v)) (need o (done b))
+          ≡ bind o (λ a. then_some b (message.Rsm (record { head = h; mac = a })))
+      out None b = refl
+      out (Some a) true = refl
+      out (Some a) false = refl
 
   -- ---- RSI
 
-  rsi_out : (at : ℕ) (o p : Option ℕ) (b : Bool)
-      → seen_as h at rsi (map rsi_record (need o (map (λ b. (p, b)) (done b))))
-      ≡ cond (found o && b)
-      (message.Rsi (record {
-        head = h;
-        service = number_or_zero o;
-        svr = span_at SVR at o;
-        edc = optional p (span_at EDC (next_at SVR at o) p);
-      }))
-      message.Nothing
-  rsi_out at none p b = refl
-  rsi_out at (some n) p true = refl
-  rsi_out at (some n) p false = refl
-
-  abbrev pub rsi_join : NumberField → NumberField → Message
-  rsi_join v e =
-      message.Rsi (record { head = h; service = v.value; svr = v.place.span; edc = optional_of e })
-
-  pub rsi_step : (at : ℕ) {v e : NumberField} → v ≡ svr_at at → e ≡ edc_at v.place.next
-      → (b : Bool) → v.place.there && ended s e.place.next ≡ b
-      → rsi_body h at (drop at s) ≡ cond b (rsi_join v e) message.Nothing
+  pub rsi_step : (at : ℕ) {v e : Field Numeral} → v ≡ seen_at SVR s at → e ≡ seen_at EDC s v.next
+      → rsi_body h at (drop at s)
+      ≡ bind v.contents (λ a. then_some (ended s e.next)
+      (message.Rsi (record { head = h; service = a.value; svr = a.span; edc = e.contents })))
   unfolding rsi_body
-  rsi_step at i j b q =
-      let o = taken_at SVR s at in
-      let p = taken_at EDC s (next_at SVR at o) in
-      rw (← q, j, i)
-      (ap (seen_as h at rsi)
-      (form_whole rsi_record rsi_values (closed rsi_row) (drop at s) ∙ ap (map rsi_record) (row_walk rsi_row s at))
-      ∙ rsi_out at o p (ended s (next_at EDC (next_at SVR at o) p)))
+  rsi_step at {v} {e} i j =
+      form_seen rsi_record rsi_values (closed rsi_row) (drop at s) (λ r. message.Rsi (rsi_with h (shown_row rsi_row at (rsi_values r))))
+      ∙ row_seen rsi_row s at (λ v. message.Rsi (rsi_with h v)) ∙ rw (j, i) (out v₀.contents (seen_at EDC s v₀.next).contents (ended s (seen_at EDC s v₀.next).next))
+    where
+      v₀ : Field Numeral
+      v₀ = seen_at SVR s at
+
+      out : (o p : Option Numeral) (b : Bool)
+          → option_map (λ v. message.Rsi (rsi_with h v)) (need o (option_map (λ b. (p, b)) (done b)))
+          ≡ bind o (λ a. then_some b (message.Rsi (record { head = h; service = a.value; svr = a.span; edc = p })))
+      out None p b = refl
+      out (Some a) p true = refl
+      out (Some a) p false = refl
 
   -- ---- ESM
 
-  abbrev pub esm_join : NumberField → NumberField → NumberField → NumberField → Message
-  esm_join c r l e =
-      message.Esm (record {
-        head = h;
-        ctp = optional_of c;
-        ctr = optional_of r;
-        erf = numeral_of l;
-        edc = optional_of e;
-      })
+  esm_cond : {M : Type 0} (r : csm_message.Esm) (f : csm_message.Esm → M) (b : Bool)
+      → option_map f (cond b (Some r) None) ≡ then_some b (f r)
+  esm_cond r f true = refl
+  esm_cond r f false = refl
 
-  esm_cond : (at : ℕ) (r : csm_message.Esm) (b : Bool)
-      → seen_as h at esm (cond b (some r) none) ≡ cond b (body_seen h at (esm r)) message.Nothing
-  esm_cond at r true = refl
-  esm_cond at r false = refl
-
-  esm_out : (at : ℕ) (c r l e : Option ℕ) (b : Bool)
-      → let m = next_at CTP at c in let n = next_at CTR m r in let k = next_at ERF n l in
-      seen_as h at esm (passing counts_with_P
-      (map esm_record (map (λ b. (c, b)) (map (λ b. (r, b)) (need l (map (λ b. (e, b)) (done b)))))))
-      ≡ cond ((found l && b) && agree (number_or_zero l) (found c) (found r))
-      (message.Esm (record {
-        head = h;
-        ctp = optional c (span_at CTP at c);
-        ctr = optional r (span_at CTR m r);
-        erf = record { value = number_or_zero l; span = span_at ERF n l };
-        edc = optional e (span_at EDC k e);
-      }))
-      message.Nothing
-  unfolding agree
-  esm_out at c r none e b = refl
-  esm_out at c r (some n) e false = refl
-  esm_out at c r (some n) e true =
-      let m : csm_message.Esm = record { ctp = c; ctr = r; erf = n; edc = e } in esm_cond at m (counts_with_P m)
-
-  pub esm_step : (at : ℕ) {c r l e : NumberField} → c ≡ ctp_at at → r ≡ ctr_at c.place.next
-      → l ≡ erf_at r.place.next → e ≡ edc_at l.place.next
-      → (b : Bool) → (l.place.there && ended s e.place.next)
-      && agree l.value c.place.there r.place.there ≡ b
-      → esm_body h at (drop at s) ≡ cond b (esm_join c r l e) message.Nothing
-  unfolding esm_body
-  esm_step at i j k l b q =
-      let o₁ = taken_at CTP s at in
-      let n₂ = next_at CTP at o₁ in
-      let o₂ = taken_at CTR s n₂ in
-      let n₃ = next_at CTR n₂ o₂ in
-      let o₃ = taken_at ERF s n₃ in
-      let n₄ = next_at ERF n₃ o₃ in
-      let o₄ = taken_at EDC s n₄ in
-      rw (← q, l, k, j, i)
-      (ap (seen_as h at esm)
-      (such_whole counts_with_P (as_form esm_record esm_values (closed esm_row)) (drop at s)
+  pub esm_step : (at : ℕ) {c r l e : Field Numeral} → c ≡ seen_at CTP s at → r ≡ seen_at CTR s c.next
+      → l ≡ seen_at ERF s r.next → e ≡ seen_at EDC s l.next
+      → esm_body h at (drop at s)
+      ≡ bind l.contents (λ a. then_some (ended s e.next && agree a.value (is_some c.contents) (is_some r.contents))
+      (message.Esm (record { head = h; ctp = c.contents; ctr = r.contents; erf = a; edc = e.contents })))
+  unfolding esm_body agree
+  esm_step at i j k l =
+      let n₁ = next_at CTP at o₁ in
+      ap (option_map seen) (such_whole counts_with_P (as_form esm_record esm_values (closed esm_row)) (drop at s)
       ∙ ap (passing counts_with_P) (form_whole esm_record esm_values (closed esm_row) (drop at s)
-      ∙ ap (map esm_record) (row_walk esm_row s at)))
-      ∙ esm_out at o₁ o₂ o₃ o₄ (ended s (next_at EDC n₄ o₄)))
+      ∙ ap (option_map esm_record) (row_walk esm_row s at)))
+      ∙ out at o₁ o₂ o₃ o₄ (ended s (next_at EDC n₃ o₄)) ∙ rw (l, k, j, i)
+    where
+      seen : csm_message.Esm → Message
+      seen r = message.Esm (esm_with h (shown_row esm_row at (esm_values r)))
+
+      o₁ : Option ℕ
+      o₁ = taken_at CTP s at
+
+      o₂ : Option ℕ
+      o₂ = taken_at CTR s (next_at CTP at o₁)
+
+      n₂ : ℕ
+      n₂ = next_at CTR (next_at CTP at o₁) o₂
+
+      o₃ : Option ℕ
+      o₃ = taken_at ERF s n₂
+
+      n₃ : ℕ
+      n₃ = next_at ERF n₂ o₃
+
+      o₄ : Option ℕ
+      o₄ = taken_at EDC s n₃
+
+      out : (at : ℕ) (c r l e : Option ℕ) (b : Bool)
+          → let m = next_at CTP at c in let n = next_at CTR m r in let k = next_at ERF n l in
+          option_map (λ r. message.Esm (esm_with h (shown_row esm_row at (esm_values r)))) (passing counts_with_P
+          (option_map esm_record (option_map (λ b. (c, b)) (option_map (λ b. (r, b)) (need l (option_map (λ b. (e, b)) (done b)))))))
+          ≡ bind (option_map (shown_at ERF n) l) (λ a. then_some (b && cond (has_P a.value)
+          (is_some (option_map (shown_at CTP at) c) && is_some (option_map (shown_at CTR m) r))
+          (not (is_some (option_map (shown_at CTP at) c)) && not (is_some (option_map (shown_at CTR m) r))))
+          (message.Esm (record {
+            head = h;
+            ctp = option_map (shown_at CTP at) c;
+            ctr = option_map (shown_at CTR m) r;
+            erf = a;
+            edc = option_map (shown_at EDC k) e;
+          })))
+      out at c r None e b = refl
+      out at c r (Some n) e false = refl
+      out at None None (Some n) e true = esm_cond (record { ctp = None; ctr = None; erf = n; edc = e }) _ _
+      out at (Some c) None (Some n) e true = esm_cond (record { ctp = Some c; ctr = None; erf = n; edc = e }) _ _
+      out at None (Some r) (Some n) e true = esm_cond (record { ctp = None; ctr = Some r; erf = n; edc = e }) _ _
+      out at (Some c) (Some r) (Some n) e true = esm_cond (record { ctp = Some c; ctr = Some r; erf = n; edc = e }) _ _
 
   -- ---- KSM
 
-  abbrev pub ksm_join : Place → KeyField → KeyField → Place → Place → NumberField → NumberField → Message
-  ksm_join v k j i d c m =
-      message.Ksm (record {
+  pub ksm_step : (at : ℕ) {v : Field Span} {k j : Field Kd} {i d : Field Span} {c m : Field Numeral} → v ≡ seen_at NOS s at
+      → k ≡ seen_at KD s v.next → j ≡ seen_at KD s k.next → i ≡ seen_at IV s j.next → d ≡ seen_at EDK s i.next
+      → c ≡ seen_at CTP s d.next → m ≡ seen_at MAC s c.next
+      → ksm_body h at (drop at s)
+      ≡ bind k.contents (λ a. bind c.contents (λ b. bind m.contents (λ e. then_some (ended s m.next)
+      (message.Ksm (record {
         head = h;
-        nos = v.there;
-        first = k.kd;
-        two = j.place.there;
-        second = j.kd;
-        iv = i.span;
-        edk = d.span;
-        ctp = numeral_of c;
-        mac = numeral_of m;
-      })
-
-  ksm_out : (at : ℕ) (v : Option (Unit {0})) (k j : Option csm.Kd) (i d : Option Text) (c m : Option ℕ) (b : Bool)
-      → let n₁ = next_at NOS at v in let n₂ = next_at KD n₁ k in let n₃ = next_at KD n₂ j in let n₄ = next_at IV n₃ i in
-      let n₅ = next_at EDK n₄ d in let n₆ = next_at CTP n₅ c in
-      seen_as h at ksm (map ksm_record (map (λ b. (v, b)) (need k (map (λ b. (j, b)) (map (λ b. (i, b))
-      (map (λ b. (d, b)) (need c (need m (done b)))))))))
-      ≡ cond (found k && (found c && (found m && b)))
-      (ksm_join (place_of (inner NOS) at (tag NOS) v) (key_at n₁ k) (key_at n₂ j) (place_of itself n₃ (tag IV) i)
-      (place_of itself n₄ (tag EDK) d)
-      (number_at count.text n₅ (tag CTP) c) (number_at check_text n₆ (tag MAC) m))
-      message.Nothing
-  ksm_out at v none j i d c m b = refl
-  ksm_out at v (some k) j i d none m b = refl
-  ksm_out at v (some k) j i d (some c) none b = refl
-  ksm_out at v (some k) j i d (some c) (some m) false = refl
-  ksm_out at v (some k) none i d (some c) (some m) true = rw (flagged_found v)
-  ksm_out at v (some k) (some j) i d (some c) (some m) true = rw (flagged_found v)
-
-  pub ksm_step : (at : ℕ) {v : Place} {k j : KeyField} {i d : Place} {c m : NumberField} → v ≡ nos_at at
-      → k ≡ kd_field_at v.next → j ≡ kd_field_at k.place.next → i ≡ iv_at j.place.next → d ≡ edk_at i.next → c ≡ ctp_at d.next
-      → m ≡ mac_at c.place.next
-      → (b : Bool) → k.place.there && (c.place.there && (m.place.there && ended s m.place.next)) ≡ b
-      → ksm_body h at (drop at s) ≡ cond b (ksm_join v k j i d c m) message.Nothing
+        nos = is_some v.contents;
+        first = a;
+        second = j.contents;
+        iv = i.contents;
+        edk = d.contents;
+        ctp = b;
+        mac = e;
+      })))))
   unfolding ksm_body
-  ksm_step at v i j k l m n b q =
-      let o₀ = taken_at NOS s at in
-      let n₁ = next_at NOS at o₀ in
-      let o₁ = taken_at KD s n₁ in
-      let n₂ = next_at KD n₁ o₁ in
-      let o₂ = taken_at KD s n₂ in
-      let n₃ = next_at KD n₂ o₂ in
-      let o₃ = taken_at IV s n₃ in
-      let n₄ = next_at IV n₃ o₃ in
-      let o₄ = taken_at EDK s n₄ in
-      let n₅ = next_at EDK n₄ o₄ in
-      let o₅ = taken_at CTP s n₅ in
-      let n₆ = next_at CTP n₅ o₅ in
-      let o₆ = taken_at MAC s n₆ in
-      rw (← q, n, m, l, k, j, i, v)
-      (ap (seen_as h at ksm)
-      (form_whole ksm_record ksm_values (closed ksm_row) (drop at s) ∙ ap (map ksm_record) (row_walk ksm_row s at))
-      ∙ ksm_out at o₀ o₁ o₂ o₃ o₄ o₅ o₆ (ended s (next_at MAC n₆ o₆)))
+  ksm_step at {v} {k} {j} {i} {d} {c} {m} ve ke je ie de ce me =
+      form_seen ksm_record ksm_values (closed ksm_row) (drop at s) (λ r. message.Ksm (ksm_with h (shown_row ksm_row at (ksm_values r))))
+      ∙ (λ x. option_map (λ w. message.Ksm (ksm_with h (shown_row ksm_row at (flagged_found w.0 x, w.1)))) (whole (closed ksm_row) (drop at s)))
+      ∙ row_seen ksm_row s at (λ w. message.Ksm (ksm_with h w))
+      ∙ rw (me, ce, de, ie, je, ke, ve) (out (seen_at NOS s at).contents _ _ _ _ _ _ _)
+    where
+      out : (v : Option Span) (k j : Option Kd) (i d : Option Span) (c m : Option Numeral) (b : Bool)
+          → option_map (λ w. message.Ksm (ksm_with h w)) (option_map (λ b. (v, b)) (need k (option_map (λ b. (j, b))
+          (option_map (λ b. (i, b)) (option_map (λ b. (d, b)) (need c (need m (done b))))))))
+          ≡ bind k (λ a. bind c (λ x. bind m (λ e. then_some b (message.Ksm (record {
+            head = h;
+            nos = is_some v;
+            first = a;
+            second = j;
+            iv = i;
+            edk = d;
+            ctp = x;
+            mac = e;
+          })))))
+      out v None j i d c m b = refl
+      out v (Some k) j i d None m b = refl
+      out v (Some k) j i d (Some c) None b = refl
+      out None (Some k) j i d (Some c) (Some m) true = refl
+      out (Some v) (Some k) j i d (Some c) (Some m) true = refl
+      out v (Some k) j i d (Some c) (Some m) false = refl

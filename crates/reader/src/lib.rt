@@ -9,7 +9,7 @@ ghost use Rattle.csm.specs.Message as csm;
 ghost use Rattle.reader.specs.Seen as seen;
 ghost use Rattle.reader.specs.Stages as stages;
 
-use fields::{Class, Kd};
+use fields::{Class, Kd, Numeral};
 use octets::Span;
 
 // Where RCV and ORG stand.
@@ -19,41 +19,24 @@ pub struct Head {
     pub org: Span,
 }
 
-// A number as it is written: its value, and where its text stands.
-#[derive(Clone, Copy)]
-pub struct Numeral {
-    pub value: u64,
-    pub span: Span,
-}
-
-// A number that may be missing, and where its text stands: zero and nowhere where it is.
-#[derive(Clone, Copy)]
-pub struct Optional {
-    pub there: bool,
-    pub value: u64,
-    pub span: Span,
-}
-
 // An RSI: the place of its service among the twelve, and where SVR stands.
 #[derive(Clone, Copy)]
 pub struct Rsi {
     pub head: Head,
     pub service: u64,
     pub svr: Span,
-    pub edc: Optional,
+    pub edc: Option<Numeral>,
 }
 
-// A KSM: whether NOS stands there: its keys are notarized; its KDs, the second zero where there is none; where IV and EDK
-// stand, nowhere where there is none; CTP and MAC.
+// A KSM: whether NOS stands there: its keys are notarized; its KDs; where IV and EDK stand; CTP and MAC.
 #[derive(Clone, Copy)]
 pub struct Ksm {
     pub head: Head,
     pub nos: bool,
     pub first: Kd,
-    pub two: bool,
-    pub second: Kd,
-    pub iv: Span,
-    pub edk: Span,
+    pub second: Option<Kd>,
+    pub iv: Option<Span>,
+    pub edk: Option<Span>,
     pub ctp: Numeral,
     pub mac: Numeral,
 }
@@ -69,10 +52,10 @@ pub struct Rsm {
 #[derive(Clone, Copy)]
 pub struct Esm {
     pub head: Head,
-    pub ctp: Optional,
-    pub ctr: Optional,
+    pub ctp: Option<Numeral>,
+    pub ctr: Option<Numeral>,
     pub erf: Numeral,
-    pub edc: Optional,
+    pub edc: Option<Numeral>,
 }
 
 // An option: its class and where its rest stands.
@@ -91,65 +74,65 @@ pub enum Message {
     Rsm(Rsm),
     Esm(Esm),
     Option(Rest),
-    Nothing,
 }
 
-// Both names of the head, if they are there, and where what follows them starts.
-#[derive(Clone, Copy)]
-struct Names {
-    there: bool,
-    head: Head,
-    next: usize,
+impl Message {
+    // Where RCV and ORG stand.
+    pub fn head(&self) -> Head
+        ensures { result ≡ seen.head_in self.now }
+    {
+        match self {
+            Message::Rsi(message) => message.head,
+            Message::Ksm(message) => message.head,
+            Message::Rsm(message) => message.head,
+            Message::Esm(message) => message.head,
+            Message::Option(message) => message.head,
+        }
+    }
 }
 
-// RCV and ORG.
-fn names_at(text: &[u8], at: usize) -> Names
+// RCV and ORG, and where what follows them starts.
+fn names_at(text: &[u8], at: usize) -> Option<(Head, usize)>
     ensures { result ≡ stages.names_at text.now at }
 {
     let rcv = fields::run_field(text, at, b"RCV/", b'Z', 1, 16);
     let org = fields::run_field(text, rcv.next, b"ORG/", b'Z', 1, 16);
-    let to = rcv.span;
-    let from = org.span;
-    Names {
-        there: rows::both(rcv.there, org.there),
-        head: Head { rcv: to, org: from },
-        next: org.next,
-    }
+    let head = Head {
+        rcv: rcv.contents?,
+        org: org.contents?,
+    };
+    Some((head, org.next))
 }
 
 // What follows the head, by its class.
-fn body_at(text: &[u8], at: usize, class: Class, head: Head) -> Message
+fn body_at(text: &[u8], at: usize, class: Class, head: Head) -> Option<Message>
     ensures { result ≡ stages.body class head at (drop at text.now) }
 {
+    if options::is_option(text, at, class) {
+        return options::rest_at(text, at, class, head);
+    }
     match class {
-        Class::Rsi => options::rsi_or_option(text, at, head),
-        Class::Ksm => options::ksm_or_option(text, at, head),
+        Class::Rsi => rows::rsi_at(text, at, head),
+        Class::Ksm => rows::ksm_at(text, at, head),
         Class::Rsm => rows::rsm_at(text, at, head),
         Class::Esm => rows::esm_at(text, at, head),
-        Class::Dsm => options::rest_at(text, at, Class::Dsm, head),
-        Class::Ers => options::rest_at(text, at, Class::Ers, head),
-        Class::Rfs => options::rest_at(text, at, Class::Rfs, head),
-        Class::Rtr => options::rest_at(text, at, Class::Rtr, head),
-        Class::Nothing => Message::Nothing,
+        Class::Dsm | Class::Ers | Class::Rfs | Class::Rtr => None,
     }
 }
 
 // What the text is read as.
-pub fn read(text: &[u8]) -> Message
+pub fn read(text: &[u8]) -> Option<Message>
     ensures { result ≡ seen.seen (csm.read text.now) }
 {
     if 512 < text.len() {
-        return Message::Nothing;
+        return None;
     }
     if !octets::starts(text, 0, b"CSM(") {
-        return Message::Nothing;
+        return None;
     }
-    let names = names_at(text, 12);
-    if !names.there {
-        return Message::Nothing;
-    }
-    let head = names.head;
-    body_at(text, names.next, fields::class_field(text, 4), head)
+    let (head, next) = names_at(text, 12)?;
+    let class = fields::class_field(text, 4)?;
+    body_at(text, next, class, head)
 }
 
 // The part that the MAC of a KSM or an RSM covers, where its contents stand there: from the M of `MCL/` through the blank
@@ -157,9 +140,8 @@ pub fn read(text: &[u8]) -> Message
 pub fn covered(mac: Span) -> Span
     ensures { result ≡ seen.covered_span mac }
 {
-    let mut length = 0;
-    if 8 < mac.at {
-        length = mac.at - 8;
+    Span {
+        at: 4,
+        length: mac.at.saturating_sub(8),
     }
-    Span { at: 4, length }
 }

@@ -1,134 +1,106 @@
--- F, M and P as the code judges them are those of the steps, and so is what is handed out.
-use mathlib.Core.Path.{◌≡◌, refl, sym, ap, ◌∙◌}
-use mathlib.Core.Bool.{Bool, true, false, not, ◌||◌}
-use mathlib.Core.List.{[], ◌∷◌}
-use mathlib.Core.Option.{Option, none, some}
-use Prim.Native.Nat.{ℕ, ◌+◌, ◌≤◌}
-use native.Mathlib.Omega.{arith}
+-- F, M and P as the code judges them are those of the steps, and so is what is told.
+use Rattle.std.specs.Prelude.{Option, None, Some, option_map, option_and_then}
+use mathlib.Core.Path.{◌≡◌, refl, ap}
+use mathlib.Core.Bool.{Bool, true, false, cond, not, ◌&&◌, ◌||◌}
+use mathlib.Core.List.{List, [], ◌∷◌}
+use Prim.Native.Nat.{ℕ}
 use lib.Dec.{eqb}
-use lib.ListN.{length}
-use borrow.Author.Tests.{ne_eqb}
-use Rattle.octets.specs.Text.{Text}
+use borrow.Author.Tests.{not-false}
+use Rattle.octets.specs.Text.{Text, is_run}
 use Rattle.octets.specs.Part.{found, part}
+use Rattle.octets.specs.declared.Span.{Span}
+use Rattle.keying.specs.Mac.{mac_key, mac}
 use Rattle.dates.specs.Date.{is_date}
-use Rattle.csm.specs.Fields.{nonempty}
-use Rattle.csm.specs.Message.{Ksm}
+use Rattle.csm.specs.Fields.{numeral}
+use Rattle.csm.proofs.WordTests.{hex_value}
 use Rattle.reader.specs.declared.Ksm as reader
 use Rattle.partner.specs.declared.KeySet.{KeySet}
 use Rattle.partner.specs.declared.Entry.{Entry}
 use Rattle.partner.specs.Entry.{keys_in}
-use Rattle.calls.specs.Words.{some_has}
+use Rattle.calls.specs.declared.Date.{Date}
+use Rattle.calls.specs.Words.{some_has, in_case◌then◌else◌}
 use Rattle.calls.specs.Receive as steps
-use Rattle.calls.specs.Outcome.{F, M, P, success, keys}
-use Rattle.calls.specs.Receive.{iv_value, iv_of, when, faults}
-use Rattle.outcome.specs.Report.{report, or_zero, date_of}
-use Rattle.receiving.specs.declared.judging.Value.{Value}
-use Rattle.receiving.specs.Texts.{ksm_in, KsmRead}
-use Rattle.receiving.specs.Stages.{value_of, value_told, is_value, bad_iv, bad_format, bad_mac}
-use Rattle.receiving.specs.Stages.{date_over, handed_out}
-use Rattle.receiving.proofs.Missing.{nonempty_none, nonempty_some}
-use Rattle.receiving.proofs.Reading.{date_same}
+use Rattle.calls.specs.Receive.{iv_of, faults, bad_count}
+use Rattle.calls.specs.Outcome.{keys}
+use Rattle.calls.proofs.Tests.{or_split}
+use Rattle.calls.proofs.Turns.{none_holds}
+use Rattle.receiving.specs.Texts.{ksm_in, Sealed}
+use Rattle.receiving.specs.Stages.{iv_value, iv_in, date_value, date_in, bad_format, bad_mac, letters_of, told_if, counts_in}
 
--- ---- F
+-- a choice, in the words of the steps
+pub as_case : {A : Type 0} (b : Bool) (x : A) {y z : A} → y ≡ z → cond b x y ≡ (in_case b then x else z)
+unfolding in_case◌then◌else◌
+as_case true x h = refl
+as_case false x h = h
 
--- no IV is not bad; one that is there is where it has no value
-pub no_iv : (iv : Text) (v : Value) → length iv ≡ 0 → false ≡ bad_iv iv v
-unfolding bad_iv some_has
-no_iv iv v h = rw (bad_iv, nonempty_none iv h)
+-- what is made of a number that is there
+as_there : {A : Type 0} (b : Bool) (f : ℕ → Option A) (n : ℕ) {r : Option A} → f n ≡ r
+    → option_and_then f (cond b (Some n) None) ≡ (in_case not b then None else r)
+unfolding in_case◌then◌else◌
+as_there true f n h = h
+as_there false f n h = refl
 
-pub some_iv : (iv : Text) (v : Value) → 1 ≤ length iv → not (is_value v) ≡ bad_iv iv v
-unfolding bad_iv some_has
-some_iv iv v h = rw (bad_iv, nonempty_some iv h)
+-- the value of an IV
+iv_same : (ks : List ℕ) (w : Text) → iv_value ks w ≡ steps.iv_value ks w
+unfolding steps.iv_value
+iv_same ks [] = refl
+iv_same ks (c ∷ w) =
+    rw (hex_value 16 w) (as_there (is_run 70 16 16 w) _ (numeral 16 0 w) (as_case (eqb c 80) _ (as_case (eqb c 69) _ refl)))
 
--- after a good or missing IV the EDK decides
-pub no_edk : (iv edk : Text) (v : Value) → bad_iv iv v ≡ false → length edk ≡ 0 → false ≡ bad_format iv v edk
-unfolding bad_format some_has
-no_edk iv edk v f h = rw (bad_format, f, nonempty_none edk h)
+module _ (set : KeySet) (t : Text) where
+  -- that of a KSM
+  iv_of_same : (o : Option Span) → option_and_then (λ (p : Span). iv_value (keys_in set) (part t p)) o
+      ≡ elim (option_map (part t) o) [ None ↦ None | Some w ↦ steps.iv_value (keys_in set) w ]
+  iv_of_same None = refl
+  iv_of_same (Some p) = iv_same (keys_in set) (part t p)
 
-pub some_edk : (iv edk : Text) (v : Value) → bad_iv iv v ≡ false → 1 ≤ length edk
-    → not (is_date edk) ≡ bad_format iv v edk
-unfolding bad_format some_has
-some_edk iv edk v f h = rw (bad_format, f, nonempty_some edk h)
+  -- F of an IV and of an EDK
+  bad_iv : (o : Option Span) → found o && not (found (option_and_then (λ (p : Span). iv_value (keys_in set) (part t p)) o))
+      ≡ some_has (λ w. not (found (steps.iv_value (keys_in set) w))) (option_map (part t) o)
+  unfolding some_has
+  bad_iv None = refl
+  bad_iv (Some p) = ap (λ (v : Option ℕ). not (found v)) (iv_same (keys_in set) (part t p))
 
--- a bad IV is F
-pub bad_iv_is_bad : (iv edk : Text) (v : Value) → bad_iv iv v ≡ true → true ≡ bad_format iv v edk
-unfolding bad_format
-bad_iv_is_bad iv edk v f = rw (bad_format, f)
+  date_found : (b : Bool) (d : Date) → found (cond b (Some d) None) ≡ b
+  date_found true d = refl
+  date_found false d = refl
 
--- a value of the code is there where that of the steps is
-value_found : (o : Option ℕ) → is_value (value_of o) ≡ found o
-value_found none = refl
-value_found (some n) = refl
+  bad_edk : (o : Option Span) → found o && not (found (option_and_then (λ (p : Span). date_value (part t p)) o))
+      ≡ some_has (λ w. not (is_date w)) (option_map (part t) o)
+  unfolding some_has
+  bad_edk None = refl
+  bad_edk (Some p) = ap not (date_found (is_date (part t p)) _)
 
-module _ (set : KeySet) (m : Ksm) (iv edk : Text) (i : m.iv ≡ nonempty iv) (d : m.edk ≡ nonempty edk) where
-  -- F of the steps
-  pub format_same : bad_format iv (value_of (iv_value (keys_in set) iv)) edk ≡ steps.bad_format set m
-  unfolding bad_format bad_iv steps.bad_format some_has
-  format_same = rw (i, d) (go iv)
-    where
-      go : (w : Text)
-          → some_has (λ u. not (is_value (value_of (iv_value (keys_in set) w)))) (nonempty w)
-          || some_has (λ u. not (is_date u)) (nonempty edk)
-          ≡ some_has (λ u. not (found (iv_value (keys_in set) u))) (nonempty w)
-          || some_has (λ u. not (is_date u)) (nonempty edk)
-      go [] = refl
-      go (x ∷ w) = rw (value_found (iv_value (keys_in set) (x ∷ w)))
+  -- a date that is not F is the digits of its EDK
+  date_same : (o : Option Span) → some_has (λ w. not (is_date w)) (option_map (part t) o) ≡ false
+      → option_map (λ (d : Date). d.digits) (option_and_then (λ (p : Span). date_value (part t p)) o) ≡ option_map (part t) o
+  unfolding some_has
+  date_same None h = refl
+  date_same (Some p) h = rw (not-false _ h)
 
-  -- ---- what is handed out
+  module _ (e : Entry) (m : reader.Ksm) where
+    -- all the letters that hold
+    pub letters_same : Sealed m.mac.span t → letters_of (bad_format m (iv_in (keys_in set) t m) (date_in t m)) (bad_mac (keys_in set) t m.mac)
+        (bad_count e.receiving.expected m.ctp.value)
+        ≡ faults e set t (ksm_in m t)
+    unfolding faults ksm_in steps.bad_format steps.bad_mac
+    letters_same sealed = λ i. letters_of (bad_iv m.iv i || bad_edk m.edk i)
+        (not (eqb (mac (mac_key (keys_in set)) (sealed i)) m.mac.value))
+        (bad_count e.receiving.expected m.ctp.value)
 
-  -- what the steps tell of IV and date
-  pub handed_same : date_over edk ≡ date_of m.edk
-      → handed_out (value_of (iv_value (keys_in set) iv)) edk ≡ report (success [] (keys (iv_of set m) m.edk))
-  unfolding report iv_value
-  handed_same date = λ i. record {
-    answer = 0;
-    letters = 0;
-    length = 0;
-    class = 2;
-    service = 0;
-    vector = (value_found (iv_value (keys_in set) iv) ∙ ap found vector) i;
-    iv = (told (iv_value (keys_in set) iv) ∙ ap or_zero vector) i;
-    dated = (dated edk ∙ ap found (sym d)) i;
-    date = date i;
-  }
-    where
-      told : (o : Option ℕ) → value_told (value_of o) ≡ or_zero o
-      told none = refl
-      told (some n) = refl
+    -- what is told where none does
+    pub told_same : eqb (faults e set t (ksm_in m t)) 0 ≡ true
+        → keys (iv_in (keys_in set) t m) (option_map (λ (d : Date). d.digits) (date_in t m))
+        ≡ keys (iv_of set (ksm_in m t)) (ksm_in m t).edk
+    unfolding faults ksm_in steps.bad_format
+    told_same z =
+        let k = ksm_in m t in
+        let none = none_holds (steps.bad_format set k) (steps.bad_mac set t k.mac) (bad_count e.receiving.expected k.ctp) z in
+        let dated = date_same m.edk (or_split _ _ none.0).1 in
+        λ i. keys (iv_of_same m.iv i) (dated i)
 
-      dated : (w : Text) → not (eqb (length w) 0) ≡ found (nonempty w)
-      dated [] = refl
-      dated (x ∷ w) = rw (ne_eqb (length (x ∷ w)) 0 (omega arith))
-
-      there : (w : Text)
-          → iv_value (keys_in set) w ≡ elim (nonempty w) [ none ↦ none | some u ↦ iv_value (keys_in set) u ]
-      there [] = refl
-      there (x ∷ w) = refl
-
-      vector : iv_value (keys_in set) iv ≡ iv_of set m
-      vector = rw i (there iv)
-
--- ---- all of them
-
--- in the code's values: the value of the IV, the three letters, what is handed out
-module _ (e : Entry) (set : KeySet) (m : reader.Ksm) (t : Text) (v : Value)
-    (is : v ≡ value_of (iv_value (keys_in set) (part t m.iv))) where
-  -- the sum of the letters is the faults of the steps
-  pub faults_same : (x y z : ℕ) → x ≡ when (bad_format (part t m.iv) v (part t m.edk)) F
-      → y ≡ when (bad_mac (keys_in set) t m.mac.value) M → z ≡ when (steps.bad_count e.receiving.expected m.ctp.value) P
-      → x + (y + z) ≡ faults e set t (ksm_in m t)
-  unfolding faults ksm_in bad_mac steps.bad_mac
-  faults_same x y z format mac count =
-      let same = format_same set (ksm_in m t) (part t m.iv) (part t m.edk) refl refl in
-      let f : x ≡ when (steps.bad_format set (ksm_in m t)) F =
-      format ∙ ap (λ (u : Value). when (bad_format (part t m.iv) u (part t m.edk)) F) is
-      ∙ ap (λ (b : Bool). when b F) same in
-      λ i. f i + (mac i + count i)
-
-  -- what is handed out is what they tell
-  pub told_same : KsmRead m t → handed_out v (part t m.edk)
-      ≡ report (success [] (keys (iv_of set (ksm_in m t)) (ksm_in m t).edk))
-  unfolding ksm_in
-  told_same good =
-      ap (λ (u : Value). handed_out u (part t m.edk)) is
-      ∙ handed_same set (ksm_in m t) (part t m.iv) (part t m.edk) refl refl (date_same m t good)
+-- the counts of an ESM for P
+pub counts_same : (late : Bool) (expected count : ℕ)
+    → counts_in (told_if late expected count) ≡ cond late (Some (expected, count)) None
+counts_same true expected count = refl
+counts_same false expected count = refl

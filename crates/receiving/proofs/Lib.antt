@@ -1,10 +1,8 @@
-pub mod Missing
-pub mod Opening
-pub mod Vectors
-pub mod Faults
-pub mod Replying
+pub mod Dates
 pub mod Reading
+pub mod Faults
+pub mod Opening
 pub mod Turning
-pub mod KeyMessage
-pub mod Classes
+pub mod Replying
+pub mod Answering
 pub mod Determined

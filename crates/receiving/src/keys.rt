@@ -1,137 +1,94 @@
 // The keys of a KSM: I and K judged, the keys deciphered, and the set that they form with their names.
-ghost use Rattle.std.specs.Prelude.{◌≡◌, not, ◌&&◌};
-ghost use Rattle.keying.specs.Parity as parity;
+ghost use Rattle.std.specs.Prelude.{◌≡◌, option_map};
+ghost use Rattle.calls.specs.Words.{any};
+ghost use Rattle.calls.specs.Receive as steps;
 ghost use Rattle.receiving.specs.Texts as texts;
 ghost use Rattle.receiving.specs.Stages as stages;
 
+use crate::fault::Fault;
 use calls::letters;
+use fields::Kd;
 use keying::{Blocks, Top};
+use outcome::Parties;
 use partner::{DataKey, Entry, KeySet};
 use reader::Ksm;
 
-// The data keys deciphered, the second zero where there is none, or the letter of the error: I, then K.
-#[derive(Clone, Copy)]
-pub(crate) enum Opened {
-    Keys { first: u64, second: u64 },
-    Error(u64),
-}
-
-// The letter of the error.
-pub(crate) fn letters_of(opened: Opened) -> u64
-    ensures { result ≡ stages.opened_letters opened }
+// The key name in force for a KD: its own IDK2, or without one the name in the table entry.
+pub fn name_in_force<'a>(idk2: Option<&'a [u8]>, name: &'a [u8]) -> &'a [u8]
+    ensures { result.now ≡ stages.name_in_force (option_map (λ w. w.now) idk2.entry) name.now }
 {
-    match opened {
-        Opened::Keys {
-            first: _,
-            second: _,
-        } => 0,
-        Opened::Error(letters) => letters,
-    }
-}
-
-// The key name in force for a KD: its own IDK2, a part of the message, or without one the name in the table entry.
-pub fn name_in_force<'a>(idk2: &'a [u8], name: &'a [u8]) -> &'a [u8]
-    ensures { result.now ≡ stages.name_in_force idk2.now name.now }
-{
-    if idk2.len() == 0 {
-        return name;
-    }
-    idk2
+    idk2.unwrap_or(name)
 }
 
 // I: whether the name in force for a KD is not the entry's name.
-fn foreign<'a>(idk2: &'a [u8], name: &'a [u8]) -> bool
-    ensures { result ≡ stages.foreign_name idk2.now name.now }
+#[tactic(auto, unfolding(calls::specs::Receive::foreign))]
+fn foreign(e: &Entry, text: &[u8], kd: &Kd) -> bool
+    ensures { result ≡ steps.foreign e.now (texts.kd_in text.now kd.now) }
 {
+    let name = octets::bare(&e.top.name.bytes);
+    let idk2 = kd.idk2.map(|span| octets::part(text, span));
     !octets::same(name_in_force(idk2, name), name)
 }
 
 // I: whether that of any KD is not.
-fn any_foreign(e: Entry, text: &[u8], m: Ksm) -> bool
-    ensures { result ≡ stages.any_foreign e (texts.ksm_in m text.now) }
+#[tactic(auto, unfolding(calls::specs::Words::any, crate::specs::Texts::ksm_in))]
+fn any_foreign(e: &Entry, text: &[u8], m: &Ksm) -> bool
+    ensures { result ≡ any (steps.foreign e.now) (steps.kds (texts.ksm_in m.now text.now)) }
 {
-    let top = e.top;
-    let filled = top.name;
-    let name = octets::bare(&filled.bytes);
-    if foreign(octets::part(text, m.first.idk2), name) {
-        return true;
-    }
-    if !m.two {
-        return false;
-    }
-    foreign(octets::part(text, m.second.idk2), name)
-}
-
-// K: whether a KD is marked P and its key not of odd parity.
-fn uneven(p: bool, key: u64) -> bool
-    ensures { result ≡ p && not (parity.odd key) }
-{
-    if !p {
-        return false;
-    }
-    !sealing::odd(key)
+    foreign(e, text, &m.first) || m.second.is_some_and(|kd| foreign(e, text, &kd))
 }
 
 // The message's working key, plain or notarized from the partner to us.
-fn working_key(own: &[u8], e: Entry, m: Ksm) -> Top
-    ensures { result ≡ stages.working_key own.now e m }
+fn working_key(us: Parties, m: &Ksm) -> Top
+    ensures { result ≡ stages.working_key us.entry.own.now us.entry.e.now m.now }
 {
-    let identity = e.identity;
     notary::working(
         m.nos,
-        octets::bare(&identity.bytes),
-        own,
-        partner::top_of(e.top),
+        octets::bare(&us.e.identity.bytes),
+        us.own,
+        partner::top_of(us.e.top),
         m.ctp.value,
     )
 }
 
-// The keys deciphered under the message's working key: I alone, then K alone.
-pub(crate) fn open_keys(own: &[u8], e: Entry, text: &[u8], m: Ksm) -> Opened
-    ensures { result ≡ stages.opened own.now e (texts.ksm_in m text.now) }
+// A deciphered key under the name that its KD gives it; K where it is marked P and not of odd parity.
+fn data_key(text: &[u8], kd: &Kd, key: u64) -> Result<DataKey, Fault>
+    ensures { result ≡ stages.data_key text.now kd.now key }
 {
-    if any_foreign(e, text, m) {
-        return Opened::Error(letters::I);
+    if kd.p && !sealing::odd(key) {
+        return Err(Fault::alone(letters::K));
     }
-    let key = working_key(own, e, m);
-    let kd = m.first;
-    let other = m.second;
-    let plain = sealing::unseal(
+    let name = kd.idk1.map_or(&[][..], |span| octets::part(text, span));
+    Ok(DataKey {
         key,
-        Blocks {
-            first: kd.key,
-            second: other.key,
-            two: m.two,
-        },
-    );
-    let first = plain.first;
-    if uneven(kd.p, first) {
-        return Opened::Error(letters::K);
-    }
-    if !m.two {
-        return Opened::Keys { first, second: 0 };
-    }
-    let second = plain.second;
-    if uneven(other.p, second) {
-        return Opened::Error(letters::K);
-    }
-    Opened::Keys { first, second }
+        name: partner::name_of(name),
+    })
 }
 
-// The keys and names that a KSM brings.
-pub(crate) fn brought(first: u64, second: u64, text: &[u8], m: Ksm) -> KeySet
-    ensures { result ≡ stages.named_keys first second (texts.ksm_in m text.now) }
+// The set that they form; K alone.
+#[tactic(auto, unfolding(crate::specs::Stages::key_set))]
+fn key_set(text: &[u8], m: &Ksm, plain: Blocks) -> Result<KeySet, Fault>
+    ensures { result ≡ stages.key_set text.now m.now plain }
 {
-    let one = DataKey {
-        key: first,
-        name: partner::name_of(octets::part(text, m.first.idk1)),
+    let first = data_key(text, &m.first, plain.first)?;
+    let Some((kd, key)) = m.second.zip(plain.second) else {
+        return Ok(partner::one_key(first));
     };
-    if !m.two {
-        return partner::one_key(one);
+    let second = data_key(text, &kd, key)?;
+    Ok(partner::two_keys(first, second))
+}
+
+// The keys deciphered under the message's working key, with their names: I alone, then K alone.
+#[tactic(auto, unfolding(crate::specs::Stages::opened))]
+pub(crate) fn open_keys(us: Parties, text: &[u8], m: &Ksm) -> Result<KeySet, Fault>
+    ensures { result ≡ stages.opened us.entry.own.now us.entry.e.now text.now m.now }
+{
+    if any_foreign(us.e, text, m) {
+        return Err(Fault::alone(letters::I));
     }
-    let two = DataKey {
-        key: second,
-        name: partner::name_of(octets::part(text, m.second.idk1)),
+    let sealed = Blocks {
+        first: m.first.key,
+        second: m.second.map(|kd| kd.key),
     };
-    partner::two_keys(one, two)
+    key_set(text, m, sealing::unseal(working_key(us, m), sealed))
 }

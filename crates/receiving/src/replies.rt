@@ -1,34 +1,44 @@
-// What we answer: an ESM or an RSM to the partner.
-ghost use Rattle.std.specs.Prelude.{◌≡◌, true, ◌++◌, length, drop};
+// What we answer: an ESM or an RSM to the partner, and its length.
+ghost use Rattle.std.specs.Prelude.{◌≡◌, ◌≤◌, true, length};
+ghost use Rattle.octets.specs.Part.{bare};
 ghost use Rattle.csm.specs.Message as csm;
 ghost use Rattle.calls.specs.Receive as steps;
-ghost use Rattle.outcome.specs.Report as report;
-ghost use Rattle.outcome.specs.Acts as acts;
 ghost use Rattle.receiving.specs.Stages as stages;
 
-use messages::Counts;
-use outcome::Report;
-use partner::{Entry, KeySet};
+use crate::Taken;
+use messages::{Address, Counts};
+use outcome::{Parties, Told};
 
-// 4 with these letters: an ESM.
-pub(crate) fn error(own: &[u8], e: Entry, letters: u64, counts: Counts, reply: &mut [u8]) -> Report
-    requires ready { acts.Ready own.now e (length reply.old) }
-    requires counts_value { csm.legal_body (steps.esm_body letters (stages.counts_in counts)) ≡ true }
-    ensures value { result ≡ report.report (steps.error own.now e letters (stages.counts_in counts)).outcome }
-    ensures reply_after { reply.new ≡ report.replied (steps.error own.now e letters (stages.counts_in counts)).outcome reply.old }
+// To the partner, from us. Stands in `building` too: `outcome`, on which both stand, knows no messages, and has no other need of them.
+fn to_partner(us: Parties) -> Address
+    ensures rcv { result.rcv.now ≡ bare us.entry.e.now.identity.bytes }
+    ensures org { result.org.now ≡ us.entry.own.now }
 {
-    let identity = e.identity;
-    let written = messages::write_esm(reply, octets::bare(&identity.bytes), own, letters, counts);
-    outcome::complaint(letters, messages::length_of(written))
+    Address {
+        rcv: octets::bare(&us.e.identity.bytes),
+        org: us.own,
+    }
 }
 
-// An RSM under the keys of the KSM that it answers: its length.
-pub(crate) fn confirm(own: &[u8], e: Entry, set: KeySet, reply: &mut [u8]) -> usize
-    requires { acts.Ready own.now e (length reply.old) }
-    ensures value { result ≡ length (steps.rsm_text own.now e set) }
-    ensures reply_after { reply.new ≡ steps.rsm_text own.now e set ++ drop (length (steps.rsm_text own.now e set)) reply.old }
+// An ESM of these letters and counts. The room of a lent reply is asked for here and below: what writes is lent the buffer
+// itself, by the project's rule, and no struct around it.
+pub(crate) fn complain(us: Parties, letters: u64, counts: Option<Counts>, reply: &mut [u8]) -> usize
+    requires roomy { 256 ≤ length reply.old }
+    requires lawful { csm.legal_body (steps.esm_body letters (stages.counts_in counts)) ≡ true }
+    ensures { stages.Replies (csm.print (steps.to_partner us.entry.own.now us.entry.e.now (steps.esm_body letters (stages.counts_in counts))))
+        reply.old reply.new result }
 {
-    let identity = e.identity;
-    let key = sealing::mac_key(partner::data_keys(set));
-    messages::length_of(messages::write_rsm(reply, octets::bare(&identity.bytes), own, key))
+    messages::write_esm(reply, to_partner(us), letters, counts).unwrap_or(0)
+}
+
+// To a KSM that is taken an RSM under its keys, which are the incoming ones now; to others nothing.
+pub(crate) fn confirm(us: Parties, taken: &Taken, reply: &mut [u8]) -> usize
+    requires { 256 ≤ length reply.old }
+    ensures { stages.Replies (stages.reply_to us.entry.own.now us.entry.e.now taken.now) reply.old reply.new result }
+{
+    let Told::Keys { .. } = taken.told else {
+        return 0;
+    };
+    let keys = partner::data_keys(taken.entry.receiving.incoming);
+    messages::write_rsm(reply, to_partner(us), sealing::mac_key(keys)).unwrap_or(0)
 }

@@ -10,15 +10,16 @@ fn place_formed(s: &[u8], at: usize, used: bool) -> bool
     requires { (at + 24 ≤ length s.now) × (at ≤ 200) }
     ensures { result ≡ unit.place_formed used (value_at stored.place_layout at s.now) }
 {
-    let name = at + 8;
-    let end = name + 16;
+    let name = &s[at + 8..at + 24];
     if used {
-        return rules::is_named(&s[name..end]);
+        rules::is_named(name)
+    } else {
+        rules::is_unused(crate::key_in(s, at), name)
     }
-    rules::is_unused(crate::number_in(s, 8, at), &s[name..end])
 }
 
 // Both places of a key set.
+#[tactic(auto, unfolding(partner::specs::Units::set_formed))]
 fn set_formed(s: &[u8], at: usize) -> bool
     requires { (at + 49 ≤ length s.now) × (at ≤ 150) }
     ensures { result ≡ unit.set_formed (value_at stored.set_layout at s.now) }
@@ -39,19 +40,17 @@ fn front_right(s: &[u8]) -> bool
 pub fn is_legal(s: &[u8]) -> bool
     ensures { result ≡ leb stored.entry_size (length s.now) && rule.legal (stored.entry_in s.now) }
 {
-    if s.len() < crate::SIZE {
-        return false;
-    }
-    front_right(s)
-        & rules::sending_right(
-            crate::count_in(s, crate::NEXT),
-            crate::byte_in(s, crate::PHASE),
-            crate::byte_in(s, crate::OUTGOING),
-        )
-        & set_formed(s, crate::OUTGOING)
-        & rules::receiving_right(
-            crate::count_in(s, crate::EXPECTED),
-            crate::byte_in(s, crate::INCOMING),
-        )
-        & set_formed(s, crate::INCOMING)
+    s.len() >= crate::SIZE
+        && front_right(s)
+            & rules::sending_right(
+                crate::count_in(s, crate::NEXT),
+                crate::byte_in(s, crate::PHASE),
+                crate::byte_in(s, crate::OUTGOING),
+            )
+            & set_formed(s, crate::OUTGOING)
+            & rules::receiving_right(
+                crate::count_in(s, crate::EXPECTED),
+                crate::byte_in(s, crate::INCOMING),
+            )
+            & set_formed(s, crate::INCOMING)
 }

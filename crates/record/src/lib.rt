@@ -1,9 +1,10 @@
 // An entry's record: the body of kind 2, read and written by its layout.
 #![tactic(auto)]
 
-ghost use Rattle.std.specs.Prelude.{◌≡◌, ◌++◌, ◌+◌, ◌<◌, ◌≤◌, ◌^◌};
+ghost use Rattle.std.specs.Prelude.{◌≡◌, ◌++◌, ◌+◌, ◌<◌, ◌≤◌, ◌^◌, leb, length};
+ghost use Rattle.std.specs.Bool.{then_some};
 ghost use Rattle.octets.specs.Number.{bytes};
-ghost use Rattle.octets.specs.Codec.{numeral, ◌followed_by◌, written, value_at};
+ghost use Rattle.octets.specs.Codec.{numeral, ◌followed_by◌, written, value_at, part_or_zeros};
 ghost use Rattle.octets.specs.Wrote.{Wrote};
 ghost use Rattle.partner.specs.Record as stored;
 
@@ -30,61 +31,56 @@ const INCOMING: usize = 107;
 
 // ---- reading
 
-// The 16 bytes from a place on, zero past the end.
-fn name_in(s: &[u8], at: usize) -> Name
-    ensures { result ≡ value_at stored.name_layout at s.now }
+// The K bytes from a place on, zero past the end.
+fn bytes_in<const K: usize>(s: &[u8], at: usize) -> [u8; K]
+    ensures { result ≡ part_or_zeros K at s.now }
 {
-    let mut bytes = [0u8; 16];
-    if s.len() <= at {
-        return Name { bytes: bytes };
+    let rest = &s[at.min(s.len())..];
+    if let Some(bytes) = rest.first_chunk() {
+        return *bytes;
     }
-    let end = at + 16;
-    if s.len() < end {
-        octets::copy(&mut bytes, &s[at..]);
-        return Name { bytes: bytes };
-    }
-    octets::copy(&mut bytes, &s[at..end]);
-    Name { bytes: bytes }
+    let mut bytes = [0; K];
+    octets::copy(&mut bytes, rest);
+    bytes
 }
 
-// The number of k bytes from a place on, some of them past the end.
-fn number_past(s: &[u8], k: usize, at: usize) -> u64
-    requires { k ≤ 8 }
-    ensures { result ≡ value_at (numeral k) at s.now }
+// The number of the K bytes from a place on.
+fn number_in<const K: usize>(s: &[u8], at: usize) -> u64
+    requires { K ≤ 8 }
+    ensures value { result ≡ value_at (numeral K) at s.now }
+    ensures upper_bound { result < 256 ^ K }
 {
-    let name = name_in(s, at);
-    let bytes = name.bytes;
-    octets::number(&bytes[..k])
-}
-
-// The number of k bytes from a place on.
-fn number_in(s: &[u8], k: usize, at: usize) -> u64
-    requires { k ≤ 8 }
-    ensures value { result ≡ value_at (numeral k) at s.now }
-    ensures upper_bound { result < 256 ^ k }
-{
-    if s.len() <= at {
-        return number_past(s, k, at);
-    }
-    let end = at + k;
-    if s.len() < end {
-        return number_past(s, k, at);
-    }
-    octets::number(&s[at..end])
+    octets::number(&bytes_in::<K>(s, at))
 }
 
 // A number of one byte.
 fn byte_in(s: &[u8], at: usize) -> u8
     ensures { result ≡ value_at (numeral 1) at s.now }
 {
-    number_in(s, 1, at) as u8
+    number_in::<1>(s, at) as u8
 }
 
 // A number of four bytes.
 fn count_in(s: &[u8], at: usize) -> u32
     ensures { result ≡ value_at (numeral 4) at s.now }
 {
-    number_in(s, 4, at) as u32
+    number_in::<4>(s, at) as u32
+}
+
+// A key or half a key, eight bytes.
+fn key_in(s: &[u8], at: usize) -> u64
+    ensures { result ≡ value_at (numeral 8) at s.now }
+{
+    number_in::<8>(s, at)
+}
+
+// A name.
+fn name_in(s: &[u8], at: usize) -> Name
+    ensures { result ≡ value_at stored.name_layout at s.now }
+{
+    Name {
+        bytes: bytes_in(s, at),
+    }
 }
 
 // A key place.
@@ -93,7 +89,7 @@ fn place_in(s: &[u8], at: usize) -> DataKey
     ensures { result ≡ value_at stored.place_layout at s.now }
 {
     DataKey {
-        key: number_in(s, 8, at),
+        key: key_in(s, at),
         name: name_in(s, at + 8),
     }
 }
@@ -118,12 +114,14 @@ fn top_in(s: &[u8], at: usize) -> TopKey
     TopKey {
         name: name_in(s, at),
         form: byte_in(s, at + 16),
-        left: number_in(s, 8, at + 16 + 1),
-        right: number_in(s, 8, at + 16 + 1 + 8),
+        left: key_in(s, at + 16 + 1),
+        right: key_in(s, at + 16 + 1 + 8),
     }
 }
 
-// The entry that a record is.
+// The entry that a record is. Not inlined: the bytes of its fields would stay in the frame of whoever goes on with the entry.
+#[tactic(auto, unfolding(partner::specs::Record::entry_in))]
+#[inline(never)]
 pub fn entry_in(s: &[u8]) -> Entry
     ensures { result ≡ stored.entry_in s.now }
 {
@@ -142,7 +140,7 @@ pub fn entry_in(s: &[u8]) -> Entry
     }
 }
 
-// ---- writing
+// ---- writing: each writer is lent the rest and tells how much it put; no function makes more than three such loans
 
 // Identity and key name.
 fn put_names(rest: &mut [u8], identity: Name, name: Name) -> usize
@@ -165,9 +163,8 @@ fn put_top(rest: &mut [u8], k: TopKey) -> usize
 fn put_front(rest: &mut [u8], e: Entry) -> usize
     ensures { Wrote (written (stored.name_layout followed_by stored.top_layout) (e.identity, e.top)) rest.old rest.new result }
 {
-    let top = e.top;
-    let a = put_names(rest, e.identity, top.name);
-    a + put_top(&mut rest[a..], top)
+    let a = put_names(rest, e.identity, e.top.name);
+    a + put_top(&mut rest[a..], e.top)
 }
 
 // Next send, expected and phase.
@@ -175,20 +172,17 @@ fn put_counts(rest: &mut [u8], e: Entry) -> usize
     ensures { Wrote (written stored.counts_layout (e.sending.next, (e.receiving.expected, e.sending.phase)))
         rest.old rest.new result }
 {
-    let sending = e.sending;
-    let receiving = e.receiving;
-    let a = octets::put_number(rest, 4, sending.next as u64);
-    let b = a + octets::put_number(&mut rest[a..], 4, receiving.expected as u64);
-    b + octets::put_number(&mut rest[b..], 1, sending.phase as u64)
+    let a = octets::put_number(rest, 4, e.sending.next as u64);
+    let b = a + octets::put_number(&mut rest[a..], 4, e.receiving.expected as u64);
+    b + octets::put_number(&mut rest[b..], 1, e.sending.phase as u64)
 }
 
 // A key place.
 fn put_place(rest: &mut [u8], k: DataKey) -> usize
     ensures { Wrote (written stored.place_layout k) rest.old rest.new result }
 {
-    let name = k.name;
     let a = octets::put_number(rest, 8, k.key);
-    a + octets::copy(&mut rest[a..], &name.bytes)
+    a + octets::copy(&mut rest[a..], &k.name.bytes)
 }
 
 // A key set.
@@ -212,20 +206,18 @@ fn put_sets(rest: &mut [u8], outgoing: KeySet, incoming: KeySet) -> usize
 pub fn put_whole(rest: &mut [u8], e: Entry) -> usize
     ensures { Wrote (stored.entry_bytes e) rest.old rest.new result }
 {
-    let sending = e.sending;
-    let receiving = e.receiving;
     let a = put_front(rest, e);
     let b = a + put_counts(&mut rest[a..], e);
-    b + put_sets(&mut rest[b..], sending.outgoing, receiving.incoming)
+    b + put_sets(&mut rest[b..], e.sending.outgoing, e.receiving.incoming)
 }
 
 // The entry's record over the front of rest, and its length; nothing where there is no room for it.
-pub fn put_entry(rest: &mut [u8], e: Entry) -> usize
+pub fn put_entry(rest: &mut [u8], e: Entry) -> Option<usize>
     ensures rest_after { rest.new ≡ (stored.put_entry e rest.old).0 }
-    ensures value { result ≡ (stored.put_entry e rest.old).1 }
+    ensures value { result ≡ then_some (leb stored.entry_size (length rest.old)) stored.entry_size }
 {
     if rest.len() < SIZE {
-        return 0;
+        return None;
     }
-    put_whole(rest, e)
+    Some(put_whole(rest, e))
 }

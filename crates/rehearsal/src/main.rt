@@ -6,59 +6,46 @@ mod keys;
 mod print;
 mod script;
 
-use outcome::Report;
 use partner::Entry;
-use script::Scene;
+use script::{Letters, Move, Side};
 use std::io;
 
-// A move, with room for what it puts out.
-fn made(
+// The move of that number, made over the row of the card whose move it is, with room for what it puts out.
+fn perform(
     rt: &impl Print,
     row: &mut [Entry],
-    own: &[u8],
-    partner: &[u8],
-    text: &[u8],
-    reply: &mut [u8],
-    act: u8,
-) -> io::Result<Report> {
-    match act {
-        script::START => Ok(outcome::refusal(row::start(row, own))),
-        script::READ => Ok(outcome::refusal(row::read_image(text, row))),
-        script::WRITE => Ok(row::write_image(row, own, reply)),
-        script::ASK => print::found(rt, row::ask(row, own, partner)),
-        script::JUDGE => Ok(print::judged(row::legal(row, own))),
-        _ => Ok(row::call(row, own, partner, script::asked(act), text, reply)),
-    }
-}
-
-// The next move of the script, made at one card.
-fn perform(rt: &impl Print, row: &mut [Entry], scene: Scene) -> io::Result<Scene> {
-    let act = script::announced(rt, scene)?;
-    let own = script::own(scene);
-    let partner = script::partner(scene);
-    let text = script::text(scene);
+    number: usize,
+    letters: &mut Letters,
+) -> io::Result<()> {
+    let act = script::act(number);
+    let side = Side::of(number);
+    let name = side.identity();
+    println!(rt; "{name} {act}")?;
+    let own = name.as_bytes();
+    let partner = side.partner().identity().as_bytes();
+    let given = script::given(number, *letters);
+    let text = given.text();
     let mut reply = [0u8; 256];
-    let report = made(
-        rt,
-        row,
-        &own,
-        &partner,
-        script::part(&text, scene),
-        &mut reply,
-        act,
-    )?;
-    script::after(rt, scene, &reply, report)
+    let report = match act {
+        Move::Start => return print::answer(rt, row::start(row, own)),
+        Move::Read => return print::answer(rt, row::read_image(text, row)),
+        Move::Ask => return print::found(rt, row::ask(row, own, partner)),
+        Move::Judge => return print::judged(rt, row::legal(row, own)),
+        Move::Write => row::write_image(row, own, &mut reply),
+        _ => row::call(row, own, partner, script::asked(act), text, &mut reply),
+    };
+    script::after(rt, number, letters, &reply, report)
 }
 
 fn main(rt: HostRuntime) -> io::Result<()> {
     let mut alpha = [partner::empty(); 64];
     let mut bravo = [partner::empty(); 64];
-    let mut scene = script::opening();
-    let mut round = 0;
-    while round < script::ROUNDS {
-        scene = perform(&rt, &mut alpha, scene)?;
-        scene = perform(&rt, &mut bravo, scene)?;
-        round += 1;
+    let mut letters = Letters::none();
+    for number in 0..script::MOVES {
+        match Side::of(number) {
+            Side::Alpha => perform(&rt, &mut alpha, number, &mut letters)?,
+            Side::Bravo => perform(&rt, &mut bravo, number, &mut letters)?,
+        }
     }
     Ok(())
 }

@@ -1,52 +1,20 @@
 // What is written out.
-use crate::script;
+use crate::script::Move;
 use outcome::Report;
 use partner::{DataKey, Entry, KeySet, Name};
 use row::Found;
 use std::io;
 
-// The move in words.
-fn words_of(act: u8) -> &'static str {
-    match act {
-        script::START => " starts",
-        script::LOAD => " loads the pair",
-        script::REMOVE => " removes its partner",
-        script::ASK => " asks for its partner",
-        script::GIVE_UP => " gives up",
-        script::BUILD_KSM => " builds a KSM",
-        script::BUILD_RSI => " builds an RSI",
-        script::RECEIVE => " receives",
-        script::WRITE => " writes its image",
-        script::READ => " reads its image",
-        _ => " looks its row over",
-    }
-}
-
-// Who does what.
-pub(crate) fn heading(rt: &impl Print, own: &[u8], act: u8) -> io::Result<()> {
-    rt.write_all(own)?;
-    rt.println(words_of(act))
-}
-
-// A letter, where its bit is set.
-fn put_letter(rt: &impl Print, letters: u64, bit: u64, letter: u8) -> io::Result<()> {
-    if letters & bit != 0 {
-        return rt.write_all(&[letter]);
+// The letters of an error, in the order of ERF, A the lowest bit.
+fn put_letters(rt: &impl Print, letters: u64) -> io::Result<()> {
+    let mut left = letters;
+    for letter in b"ABFIKMOPU" {
+        if left % 2 == 1 {
+            rt.write_all(&[*letter])?;
+        }
+        left = left / 2;
     }
     Ok(())
-}
-
-// The letters of an error, in the order of ERF.
-fn put_letters(rt: &impl Print, letters: u64) -> io::Result<()> {
-    put_letter(rt, letters, 1, b'A')?;
-    put_letter(rt, letters, 2, b'B')?;
-    put_letter(rt, letters, 4, b'F')?;
-    put_letter(rt, letters, 8, b'I')?;
-    put_letter(rt, letters, 16, b'K')?;
-    put_letter(rt, letters, 32, b'M')?;
-    put_letter(rt, letters, 64, b'O')?;
-    put_letter(rt, letters, 128, b'P')?;
-    put_letter(rt, letters, 256, b'U')
 }
 
 // The place of a service among the twelve contents of SVR.
@@ -96,9 +64,9 @@ pub(crate) fn told(rt: &impl Print, report: Report) -> io::Result<()> {
 }
 
 // What a call put out: a message as it is, of an image its length.
-pub(crate) fn text(rt: &impl Print, act: u8, text: &[u8]) -> io::Result<()> {
+pub(crate) fn text(rt: &impl Print, act: Move, text: &[u8]) -> io::Result<()> {
     rt.print("  ")?;
-    if act == script::WRITE {
+    if act == Move::Write {
         let length = text.len();
         println!(rt; "{length} bytes")
     } else {
@@ -114,58 +82,46 @@ fn put_name(rt: &impl Print, name: Name) -> io::Result<()> {
 
 // A data key and its name.
 fn put_key(rt: &impl Print, key: DataKey) -> io::Result<()> {
-    let name = key.name;
     let value = key.key;
     print!(rt; " {value:016x} ")?;
-    put_name(rt, name)
+    put_name(rt, key.name)
 }
 
-// The keys of one direction.
+// The keys of one direction, of two places as many as there are.
 fn put_keys(rt: &impl Print, direction: &str, set: KeySet) -> io::Result<()> {
-    let first = set.first;
-    let second = set.second;
     rt.print(direction)?;
-    if 0 < set.count {
-        put_key(rt, first)?;
-    }
-    if 1 < set.count {
-        put_key(rt, second)?;
+    for key in [set.first, set.second].iter().take(set.count.into()) {
+        put_key(rt, *key)?;
     }
     rt.println("")
 }
 
 // An entry: its counts, its phase and the data keys of both directions.
 fn put_entry(rt: &impl Print, e: Entry) -> io::Result<()> {
-    let top = e.top;
-    let sending = e.sending;
-    let receiving = e.receiving;
-    let name = top.name;
-    let outgoing = sending.outgoing;
-    let incoming = receiving.incoming;
-    let next = sending.next;
-    let expected = receiving.expected;
-    let phase = sending.phase;
+    let next = e.sending.next;
+    let expected = e.receiving.expected;
+    let phase = e.sending.phase;
     rt.print("  key ")?;
-    put_name(rt, name)?;
+    put_name(rt, e.top.name)?;
     println!(rt; " next {next} expected {expected} phase {phase}")?;
-    put_keys(rt, "  outgoing", outgoing)?;
-    put_keys(rt, "  incoming", incoming)
+    put_keys(rt, "  outgoing", e.sending.outgoing)?;
+    put_keys(rt, "  incoming", e.receiving.incoming)
 }
 
-// The entry asked for, where there is one.
-pub(crate) fn found(rt: &impl Print, found: Found) -> io::Result<Report> {
-    let answer = found.answer;
-    let entry = found.entry;
-    if answer == 0 {
-        put_entry(rt, entry)?;
+// The answer alone.
+pub(crate) fn answer(rt: &impl Print, answer: u32) -> io::Result<()> {
+    println!(rt; "  answer {answer}")
+}
+
+// The entry asked for, where there is one, and the answer.
+pub(crate) fn found(rt: &impl Print, found: Found) -> io::Result<()> {
+    if found.answer == 0 {
+        put_entry(rt, found.entry)?;
     }
-    Ok(outcome::refusal(answer))
+    answer(rt, found.answer)
 }
 
 // Whether the row is legal: 0 or 13.
-pub(crate) fn judged(legal: bool) -> Report {
-    if legal {
-        return outcome::refusal(0);
-    }
-    outcome::refusal(13)
+pub(crate) fn judged(rt: &impl Print, legal: bool) -> io::Result<()> {
+    answer(rt, if legal { 0 } else { 13 })
 }

@@ -2,205 +2,206 @@
 use crate::{keys, print};
 use outcome::Report;
 use sight::aims::Act;
-use std::io;
+use std::{fmt, io};
 
-// The moves.
-pub const START: u8 = 0;
+// What a card does.
+#[derive(Clone, Copy, PartialEq, Eq)]
+pub enum Move {
+    Start,
+    Load,
+    Remove,
+    Ask,
+    GiveUp,
+    BuildKsm,
+    BuildRsi,
+    Receive,
+    Write,
+    Read,
+    Judge,
+}
 
-pub const LOAD: u8 = 1;
+// The move in words.
+impl fmt::Display for Move {
+    fn fmt<W: fmt::Write>(&self, f: &mut fmt::Formatter<W>) -> fmt::Result {
+        f.write_str(match self {
+            Move::Start => "starts",
+            Move::Load => "loads the pair",
+            Move::Remove => "removes its partner",
+            Move::Ask => "asks for its partner",
+            Move::GiveUp => "gives up",
+            Move::BuildKsm => "builds a KSM",
+            Move::BuildRsi => "builds an RSI",
+            Move::Receive => "receives",
+            Move::Write => "writes its image",
+            Move::Read => "reads its image",
+            Move::Judge => "looks its row over",
+        })
+    }
+}
 
-pub const REMOVE: u8 = 2;
+// How many moves there are.
+pub const MOVES: usize = 36;
 
-pub const ASK: u8 = 3;
+// The two cards.
+#[derive(Clone, Copy, PartialEq, Eq)]
+pub enum Side {
+    Alpha,
+    Bravo,
+}
 
-pub const GIVE_UP: u8 = 4;
+impl Side {
+    // Whose move that is: even moves are ALPHA's, odd ones BRAVO's.
+    pub(crate) fn of(number: usize) -> Side {
+        if number % 2 == 0 {
+            Side::Alpha
+        } else {
+            Side::Bravo
+        }
+    }
 
-pub const BUILD_KSM: u8 = 5;
+    // The other card.
+    pub(crate) fn partner(self) -> Side {
+        match self {
+            Side::Alpha => Side::Bravo,
+            Side::Bravo => Side::Alpha,
+        }
+    }
 
-pub const BUILD_RSI: u8 = 6;
+    // The card's identity.
+    pub(crate) fn identity(self) -> &'static str {
+        match self {
+            Side::Alpha => "ALPHA",
+            Side::Bravo => "BRAVO",
+        }
+    }
+}
 
-pub const RECEIVE: u8 = 7;
-
-pub const WRITE: u8 = 8;
-
-pub const READ: u8 = 9;
-
-pub const JUDGE: u8 = 10;
-
-// How often each card moves.
-pub const ROUNDS: usize = 18;
-
-// What a card has put out.
+// What a card has put out: at most 256 bytes, which stand in an array since the card and its rehearsal use no heap.
 #[derive(Clone, Copy)]
 pub struct Letter {
-    pub bytes: [u8; 256],
-    pub length: usize,
+    bytes: [u8; 256],
+    length: usize,
 }
 
-// The number of the move, even ALPHA's and odd BRAVO's, and what each put out last.
+// A letter of these bytes, of which it holds as many as it has room for.
+impl From<&[u8]> for Letter {
+    fn from(text: &[u8]) -> Letter {
+        let mut bytes = [0u8; 256];
+        let length = octets::copy(&mut bytes, text);
+        Letter { bytes, length }
+    }
+}
+
+impl Letter {
+    // Its bytes.
+    pub(crate) fn text(&self) -> &[u8] {
+        self.bytes.get(..self.length).unwrap_or(&self.bytes)
+    }
+}
+
+// What each card put out last.
 #[derive(Clone, Copy)]
-pub struct Scene {
-    pub number: usize,
-    pub alpha: Letter,
-    pub bravo: Letter,
+pub struct Letters {
+    alpha: Letter,
+    bravo: Letter,
 }
 
-// A letter of these bytes, at most 256 of them.
-fn letter_of(text: &[u8]) -> Letter {
-    let mut bytes = [0u8; 256];
-    octets::copy(&mut bytes, text);
-    Letter {
-        bytes,
-        length: text.len(),
+impl Letters {
+    // Before the first move.
+    pub(crate) fn none() -> Letters {
+        let none = Letter::from(b"".as_slice());
+        Letters {
+            alpha: none,
+            bravo: none,
+        }
     }
-}
 
-// Before the first move.
-pub(crate) fn opening() -> Scene {
-    let none = letter_of(b"");
-    Scene {
-        number: 0,
-        alpha: none,
-        bravo: none,
+    // What that card put out.
+    fn of(self, side: Side) -> Letter {
+        match side {
+            Side::Alpha => self.alpha,
+            Side::Bravo => self.bravo,
+        }
     }
-}
 
-// Whether it is BRAVO's move.
-fn is_bravo(scene: Scene) -> bool {
-    scene.number % 2 == 1
-}
-
-// The identity of the card that moves.
-pub(crate) fn own(scene: Scene) -> [u8; 5] {
-    if is_bravo(scene) {
-        *b"BRAVO"
-    } else {
-        *b"ALPHA"
-    }
-}
-
-// The identity of its partner.
-pub(crate) fn partner(scene: Scene) -> [u8; 5] {
-    if is_bravo(scene) {
-        *b"ALPHA"
-    } else {
-        *b"BRAVO"
+    // A card's letter anew.
+    fn put(&mut self, side: Side, letter: Letter) {
+        match side {
+            Side::Alpha => self.alpha = letter,
+            Side::Bravo => self.bravo = letter,
+        }
     }
 }
 
 // The move of that number.
-fn act(number: usize) -> u8 {
+pub(crate) fn act(number: usize) -> Move {
     match number {
-        0 | 1 => START,
-        2 | 3 => LOAD,
+        0 | 1 => Move::Start,
+        2 | 3 => Move::Load,
         // Monday's key, whose KSM comes twice.
-        4 => BUILD_KSM,
-        5..=8 => RECEIVE,
-        9 | 10 => ASK,
+        4 => Move::BuildKsm,
+        5..=8 => Move::Receive,
+        9 | 10 => Move::Ask,
         // BRAVO wants a key; the first KSM is lost.
-        11 => BUILD_RSI,
-        12 => RECEIVE,
-        14 => BUILD_KSM,
-        16 => GIVE_UP,
-        18 => BUILD_KSM,
-        19 | 20 => RECEIVE,
-        21 | 22 => ASK,
+        11 => Move::BuildRsi,
+        12 => Move::Receive,
+        14 => Move::BuildKsm,
+        16 => Move::GiveUp,
+        18 => Move::BuildKsm,
+        19 | 20 => Move::Receive,
+        21 | 22 => Move::Ask,
         // Both tables are stored, and read into rows started afresh.
-        23 | 24 => WRITE,
-        25 | 26 => START,
-        27 => ASK,
-        28 | 29 => READ,
-        30 | 31 => ASK,
-        32 | 33 => REMOVE,
-        34 => ASK,
-        _ => JUDGE,
+        23 | 24 => Move::Write,
+        25 | 26 => Move::Start,
+        27 => Move::Ask,
+        28 | 29 => Move::Read,
+        30 | 31 => Move::Ask,
+        32 | 33 => Move::Remove,
+        34 => Move::Ask,
+        _ => Move::Judge,
     }
 }
 
-// The move, announced.
-pub(crate) fn announced(rt: &impl Print, scene: Scene) -> io::Result<u8> {
-    let act = act(scene.number);
-    let own = own(scene);
-    print::heading(rt, &own, act)?;
-    Ok(act)
-}
-
 // What a call asks, by the move.
-pub(crate) fn asked(act: u8) -> Act {
+pub(crate) fn asked(act: Move) -> Act {
     match act {
-        LOAD => Act::Load(keys::top()),
-        REMOVE => Act::Remove,
-        GIVE_UP => Act::GiveUp,
-        BUILD_KSM => Act::BuildKsm,
-        BUILD_RSI => Act::BuildRsi,
+        Move::Load => Act::Load(keys::top()),
+        Move::Remove => Act::Remove,
+        Move::GiveUp => Act::GiveUp,
+        Move::BuildKsm => Act::BuildKsm,
+        Move::BuildRsi => Act::BuildRsi,
         _ => Act::Receive,
     }
 }
 
-// What goes with the move: the name of the key loaded, the request of the day's keys, the service, what the partner put
-// out last, or what the card itself did.
-fn given(scene: Scene) -> Letter {
-    let number = scene.number;
-    let act = act(number);
-    let bravo = scene.bravo;
-    let alpha = scene.alpha;
-    if act == LOAD {
-        return letter_of(b"LINE1");
-    }
-    if act == BUILD_RSI {
-        return letter_of(b"KD.IV");
-    }
-    if act == BUILD_KSM {
-        if number < 14 {
-            return letter_of(&keys::monday());
-        }
-        return letter_of(&keys::tuesday());
-    }
-    if (act == RECEIVE) == is_bravo(scene) {
-        alpha
-    } else {
-        bravo
-    }
-}
-
-// Its bytes, with what lies behind them.
-pub(crate) fn text(scene: Scene) -> [u8; 256] {
-    let given = given(scene);
-    given.bytes
-}
-
-// Its bytes alone.
-pub(crate) fn part<'a>(text: &'a [u8], scene: Scene) -> &'a [u8] {
-    let given = given(scene);
-    let end = given.length;
-    if end <= text.len() {
-        &text[0..end]
-    } else {
-        text
+// What goes with a move: the name of the key loaded, the service, the request of the day's keys, what the partner put out
+// last, or what the card itself did.
+pub(crate) fn given(number: usize, letters: Letters) -> Letter {
+    let side = Side::of(number);
+    match act(number) {
+        Move::Load => Letter::from(b"LINE1".as_slice()),
+        Move::BuildRsi => Letter::from(b"KD.IV".as_slice()),
+        Move::BuildKsm if number < 14 => Letter::from(keys::monday().as_slice()),
+        Move::BuildKsm => Letter::from(keys::tuesday().as_slice()),
+        Move::Receive => letters.of(side.partner()),
+        _ => letters.of(side),
     }
 }
 
 // What a call gave is told, and its reply lies ready for the partner.
 pub(crate) fn after(
     rt: &impl Print,
-    scene: Scene,
+    number: usize,
+    letters: &mut Letters,
     reply: &[u8],
     report: Report,
-) -> io::Result<Scene> {
-    let end = report.length;
-    let mut next = scene;
-    next.number = scene.number.wrapping_add(1);
+) -> io::Result<()> {
     print::told(rt, report)?;
-    if 0 < end {
-        if end <= reply.len() {
-            print::text(rt, act(scene.number), &reply[0..end])?;
-            let put = letter_of(&reply[0..end]);
-            if is_bravo(scene) {
-                next.bravo = put;
-            } else {
-                next.alpha = put;
-            }
+    if let Some(put) = reply.get(..report.length) {
+        if !put.is_empty() {
+            print::text(rt, act(number), put)?;
+            letters.put(Side::of(number), Letter::from(put));
         }
     }
-    Ok(next)
+    Ok(())
 }

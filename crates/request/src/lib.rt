@@ -18,7 +18,7 @@ fn no_request() -> Request
     let key = KeyRequest {
         key: 0,
         flags: 0,
-        name: Name { bytes: [0; 16] },
+        name: Name::default(),
     };
     Request {
         count: 0,
@@ -37,13 +37,10 @@ fn key_request_in(s: &[u8], at: usize) -> KeyRequest
     requires { at + 25 ≤ length s.now }
     ensures { result ≡ value_at requests.key_request_layout at s.now }
 {
-    let flags = at + 8;
-    let name = flags + 1;
-    let end = name + 16;
     KeyRequest {
-        key: octets::number(&s[at..flags]),
-        flags: s[flags],
-        name: partner::name_of(&s[name..end]),
+        key: octets::number(&s[at..at + 8]),
+        flags: s[at + 8],
+        name: partner::name_of(&s[at + 9..at + 25]),
     }
 }
 
@@ -52,10 +49,9 @@ fn date_in(s: &[u8], at: usize) -> Date
     requires { at + 12 ≤ length s.now }
     ensures { result ≡ value_at requests.date_layout at s.now }
 {
-    let mut digits = [0u8; 12];
-    let end = at + 12;
-    octets::copy(&mut digits, &s[at..end]);
-    Date { digits: digits }
+    let mut digits = [0; 12];
+    digits.copy_from_slice(&s[at..at + 12]);
+    Date { digits }
 }
 
 // The request of that length.
@@ -76,11 +72,14 @@ fn whole_in(s: &[u8]) -> Request
 }
 
 // The request that the bytes are; of another length one of no keys.
+#[tactic(auto, unfolding(crate::specs::Request::request_in))]
+#[inline(never)]
 pub fn request_in(s: &[u8]) -> Request
     ensures { result ≡ requests.request_in s.now }
 {
-    if s.len() != SIZE {
-        return no_request();
+    if s.len() == SIZE {
+        whole_in(s)
+    } else {
+        no_request()
     }
-    whole_in(s)
 }

@@ -1,8 +1,8 @@
 -- The claims of specs/Claims.antt, proved.
+use Rattle.std.specs.Prelude.{Some}
 use mathlib.Core.Path.{◌≡◌, refl, sym, ap, ◌∙◌}
 use mathlib.Core.Bool.{Bool, true, false, ◌&&◌}
 use mathlib.Core.List.{List}
-use mathlib.Core.Option.{some}
 use Prim.Native.Nat.{◌≤◌}
 use lib.Dec.{eqb}
 use lib.ListN.{length, take}
@@ -30,7 +30,7 @@ over_named : (own : Text) (slots : List Entry) (c : Call) → is_name own ≡ tr
 unfolding over_row
 over_named own slots c n = if_true (is_name own) (run (table own slots) c) (refuse (table own slots) 13) n
 
-agree : (image : Text) (t : Table) (c : Call) → decode image ≡ some t → over_row (bare t.own) t.slots c ≡ run t c
+agree : (image : Text) (t : Table) (c : Call) → decode image ≡ Some t → over_row (bare t.own) t.slots c ≡ run t c
 agree image t c h =
     let l = ((images.claims).read_then_write image t h).0 in
     over_named (bare t.own) t.slots c (own_name t l)

@@ -1,8 +1,9 @@
+pub mod Surveying
 pub mod Called
 pub mod Asking
-pub mod Filling
 pub mod Starting
-pub mod Laying
+pub mod Filling
+pub mod Sized
 pub mod Writing
 pub mod Orders
 pub mod Claims

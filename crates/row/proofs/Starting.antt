@@ -1,104 +1,91 @@
--- What fills a row: 64 empty slots at the start, and the table of an image.
-use mathlib.Core.Path.{◌≡◌, refl, sym, ap, ◌∙◌}
-use mathlib.Core.Bool.{Bool, true, false, cond, not, ◌&&◌}
-use mathlib.Core.List.{List, [], ◌∷◌}
-use mathlib.Core.Option.{Option, none, some}
-use Prim.Native.Nat.{ℕ, zero, suc, ◌≤◌}
-use native.Mathlib.Omega.{arith}
-use lib.Dec.{eqb, leb}
-use borrow.Author.Tests.{leb-true}
-use lib.ListN.{length, drop, drop_of_length-le}
-use Rattle.octets.specs.Text.{Text, same, is_name, all, run_char, within}
+-- What start and image reading answer, and what they make of a row.
+use Rattle.std.proofs.Common.{◌≡◌, refl, sym, ap, ◌∙◌, Bool, true, false, cond, not, ◌&&◌, List, [], ◌∷◌, ℕ, zero, suc, eqb, length, drop, replicate, Option, None, Some, arith}
+use borrow.Author.Tests.{eqb-true}
+use Rattle.octets.specs.Text.{Text, same, is_name}
 use Rattle.octets.specs.First.{first}
 use Rattle.octets.specs.Part.{found}
-use Rattle.octets.proofs.Comparing.{both as and_true}
 use Rattle.csm.proofs.TextLaws.{some_inj, none_some}
 use Rattle.partner.specs.declared.Entry.{Entry}
 use Rattle.partner.specs.Entry.{empty, name_of}
 use Rattle.partner.specs.Table.{Table, legal, empties, started}
+use Rattle.image.specs.Image.{front_size, encode, decode, table_in, slots_in}
 use Rattle.calls.specs.Words.{in_case◌then◌else◌}
-use Rattle.image.specs.Image.{encode, decode, table_in, slots_in, slot_in, record_length}
+use Rattle.calls.specs.declared.Refusal.{Refusal}
+use Rattle.calls.specs.Refusal.{number}
 use Rattle.calls.specs.Calls as every
-use Rattle.calls.proofs.Tests.{if_true, if_false}
-use Rattle.row.specs.Stored.{start_answer, read_answer, slots_to_fill, refilled}
-use Rattle.row.specs.Calls.{slots_or, start_row, read_row}
+use Rattle.calls.proofs.Numbered.{number_not_0}
+use Rattle.row.specs.Stored.{start_answer, read_answer}
+use Rattle.row.specs.Calls.{slots_or, start_row, read_row, Started, ImageRead}
 
--- two tests in their order
-pub two : (b c : Bool) (n : ℕ) → first ((b, 13) ∷ (c, n) ∷ []) ≡ cond b 13 (cond c n 0)
-two true c n = refl
-two false c n = refl
+-- a table's slots where there is one and a test holds, else the row as it was
+abbrev into : List Entry → Bool → Option Table → List Entry
+into row b o = in_case b then slots_or row o else row
 
--- the answers, and the row with each
-refused_row : (n : ℕ) (image : Text) (row : List Entry) → eqb n 0 ≡ false → refilled n image row ≡ row
-unfolding refilled slots_to_fill
-refused_row n image row h =
-    ap (λ (b : Bool). cond (eqb (cond (not b) 0 (cond (not (eqb (length row) 64)) 0 64)) 64) (slots_in 64 (drop 17 image)) row) h
+-- 13 where the first of two tests fails, a number where the second does
+abbrev answered : Bool → Bool → ℕ → ℕ
+answered b c n = first ((not b, 13) ∷ (not c, n) ∷ [])
 
-done_row : (image : Text) (row : List Entry) → eqb (length row) 64 ≡ true → refilled 0 image row ≡ slots_in 64 (drop 17 image)
-unfolding refilled slots_to_fill
-done_row image row h =
-    ap (λ (b : Bool). cond (eqb (cond (not b) 0 64) 64) (slots_in 64 (drop 17 image)) row) h
+both : (b c : Bool) (n : ℕ) → (n ≡ 0 → ⊥) → 0 ≡ answered b c n → (b ≡ true) × (c ≡ true)
+both true true n k h = (refl, refl)
+both true false n k h = absurd (k (sym h))
+both false c n k h = absurd (omega (arith, h))
 
--- behind a name nothing is stored
-none_stored : (n : ℕ) → slots_in n [] ≡ empties n
-unfolding slots_in slot_in empties record_length
+-- ---- start
+
+none_stored : (n : ℕ) → replicate n empty ≡ empties n
+unfolding empties
 none_stored zero = refl
 none_stored (suc n) = ap (λ (l : List Entry). empty ∷ l) (none_stored n)
 
-short_name : (own : Text) → is_name own ≡ true → drop 17 own ≡ []
-short_name own h =
-    let w = and_true (all (run_char 90) own) (within 1 16 (length own)) h in
-    let k = leb-true (length own) 16 (and_true (leb 1 (length own)) (leb (length own) 16) w.1).1 in
-    let d : length own ≤ 17 = omega arith in
-    drop_of_length-le own d
+module _ (own : Text) (row : List Entry) where
+  pub start_refused : (r : Refusal) → number r ≡ start_answer own (length row) → Started own row (number r) row
+  unfolding start_answer start_row every.start in_case◌then◌else◌
+  start_refused r e = record { answer = e; row = go (eqb (length row) 64) (is_name own) (λ z. number_not_0 r (e ∙ z)) }
+    where
+      go : (b c : Bool) → (answered b c 10 ≡ 0 → ⊥) → row ≡ into row b (in_case c then Some (started (name_of own)) else None)
+      go true true h = absurd (h refl)
+      go true false h = refl
+      go false c h = refl
+
+  pub start_done : 0 ≡ start_answer own (length row) → Started own row 0 (replicate (length row) empty)
+  unfolding start_answer start_row every.start in_case◌then◌else◌
+  start_done e =
+      let k = both (eqb (length row) 64) (is_name own) 10 (λ z. omega (arith, z)) e in
+      record { answer = e; row = rw (k.0, k.1, eqb-true (length row) 64 k.0) (none_stored 64) }
+
+-- ---- image reading
 
 -- the slots of an image's table
-slots_of : (image : Text) (t : Table) → decode image ≡ some t → slots_in 64 (drop 17 image) ≡ t.slots
+slots_of : (image : Text) (t : Table) → decode image ≡ Some t → slots_in 64 (drop front_size image) ≡ t.slots
 unfolding decode table_in
 slots_of image t h = go (legal (table_in image) && same (encode (table_in image)) image) h
   where
-    go : (b : Bool) → cond b (some (table_in image)) none ≡ some t → slots_in 64 (drop 17 image) ≡ t.slots
+    go : (b : Bool) → cond b (Some (table_in image)) None ≡ Some t → slots_in 64 (drop front_size image) ≡ t.slots
     go true h = ap (λ (x : Table). x.slots) (some_inj h)
     go false h = absurd (none_some t h)
 
--- start
-pub start_is : (own : Text) (row : List Entry) → refilled (start_answer own (length row)) own row ≡ start_row own row
-unfolding start_answer start_row every.start
-start_is own row =
-    ap (λ (n : ℕ). refilled n own row) (two (not (eqb (length row) 64)) (not (is_name own)) 10) ∙ by_length (eqb (length row) 64) refl
-  where
-    by_name : eqb (length row) 64 ≡ true → (b : Bool) → is_name own ≡ b
-        → refilled (cond (not b) 10 0) own row ≡ slots_or row (in_case is_name own then some (started (name_of own)) else none)
-    by_name h true k =
-        done_row own row h ∙ ap (slots_in 64) (short_name own k) ∙ none_stored 64
-        ∙ ap (slots_or row) (sym (if_true (is_name own) (some (started (name_of own))) none k))
-    by_name h false k = refused_row 10 own row refl ∙ ap (slots_or row) (sym (if_false (is_name own) (some (started (name_of own))) none k))
+module _ (image : Text) (row : List Entry) where
+  pub read_refused : (r : Refusal) → number r ≡ read_answer image (length row) → ImageRead image row (number r) row
+  unfolding read_answer read_row in_case◌then◌else◌
+  read_refused r e = record { answer = e; row = go (eqb (length row) 64) (decode image) (λ z. number_not_0 r (e ∙ z)) }
+    where
+      go : (b : Bool) (o : Option Table) → (answered b (found o) 13 ≡ 0 → ⊥) → row ≡ into row b o
+      go true None h = refl
+      go true (Some t) h = absurd (h refl)
+      go false o h = refl
 
-    by_length : (b : Bool) → eqb (length row) 64 ≡ b
-        → refilled (cond (not b) 13 (cond (not (is_name own)) 10 0)) own row
-        ≡ (in_case b then slots_or row (in_case is_name own then some (started (name_of own)) else none) else row)
-    by_length true h =
-        go (is_name own) refl ∙ sym (if_true true (slots_or row (in_case is_name own then some (started (name_of own)) else none)) row refl)
-      where
-        go : (b : Bool) → is_name own ≡ b → refilled (cond (not (is_name own)) 10 0) own row
-            ≡ slots_or row (in_case is_name own then some (started (name_of own)) else none)
-        go b k = ap (λ (b : Bool). refilled (cond (not b) 10 0) own row) k ∙ by_name h b k
-    by_length false h = refused_row 13 own row refl ∙ sym (if_false false (slots_or row (in_case is_name own then some (started (name_of own)) else none)) row refl)
+  -- of a row that is read into
+  pub read_64 : 0 ≡ read_answer image (length row) → length row ≡ 64
+  unfolding read_answer
+  read_64 e =
+      eqb-true (length row) 64 (both (eqb (length row) 64) (found (decode image)) 13 (λ z. omega (arith, z)) e).0
 
--- image reading
-pub read_is : (image : Text) (row : List Entry) → refilled (read_answer image (length row)) image row ≡ read_row image row
-unfolding read_answer read_row
-read_is image row =
-    ap (λ (n : ℕ). refilled n image row) (two (not (eqb (length row) 64)) (not (found (decode image))) 13)
-    ∙ by_length (eqb (length row) 64) refl
-  where
-    by_table : eqb (length row) 64 ≡ true → (o : Option Table) → decode image ≡ o
-        → refilled (cond (not (found o)) 13 0) image row ≡ slots_or row o
-    by_table h none k = refused_row 13 image row refl
-    by_table h (some t) k = done_row image row h ∙ slots_of image t k
-
-    by_length : (b : Bool) → eqb (length row) 64 ≡ b
-        → refilled (cond (not b) 13 (cond (not (found (decode image))) 13 0)) image row
-        ≡ (in_case b then slots_or row (decode image) else row)
-    by_length true h = by_table h (decode image) refl ∙ sym (if_true true (slots_or row (decode image)) row refl)
-    by_length false h = refused_row 13 image row refl ∙ sym (if_false false (slots_or row (decode image)) row refl)
+  pub read_done : 0 ≡ read_answer image (length row) → ImageRead image row 0 (slots_in 64 (drop front_size image))
+  unfolding read_answer read_row in_case◌then◌else◌
+  read_done e = record { answer = e; row = go (eqb (length row) 64) (decode image) refl e }
+    where
+      go : (b : Bool) (o : Option Table) → decode image ≡ o → 0 ≡ answered b (found o) 13
+          → slots_in 64 (drop front_size image) ≡ into row b o
+      go true None d h = absurd (omega (arith, h))
+      go true (Some t) d h = slots_of image t d
+      go false o d h = absurd (omega (arith, h))

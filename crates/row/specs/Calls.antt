@@ -1,7 +1,6 @@
 -- What the functions over a lent row give: the calls of crate `calls` on the table of our identity and the row's slots (`over`
 -- in crate `sight`), ask, start, image reading and image writing.
-use Rattle.std.specs.Prelude.{◌≡◌, not, cond, List, [], ◌∷◌, ℕ, suc, eqb, ltb, length}
-use Rattle.std.proofs.Math.Option.{Option, none, some}
+use Rattle.std.specs.Prelude.{◌≡◌, not, cond, List, [], ◌∷◌, ℕ, suc, eqb, ltb, length, Option, None, Some}
 use Rattle.octets.specs.Text.{Text, same}
 use Rattle.partner.specs.declared.Entry.{Entry}
 use Rattle.partner.specs.Entry.{empty, filled}
@@ -29,8 +28,8 @@ not_shown n = record { answer = n; slot = 64; entry = empty }
 
 -- an entry asked for: 3, or 0, the number of its slot and the entry
 abbrev pub shown_of : ℕ → Option Entry → Found
-shown_of slot none = not_shown 3
-shown_of slot (some e) = record { answer = 0; slot = slot; entry = e }
+shown_of slot None = not_shown 3
+shown_of slot (Some e) = record { answer = 0; slot = slot; entry = e }
 
 -- 13, then these
 unfoldable pub asked : Text → List Entry → Text → Found
@@ -41,8 +40,8 @@ asked own slots id =
 
 -- the slots of a table, or the row as it was
 abbrev pub slots_or : List Entry → Option Table → List Entry
-slots_or row none = row
-slots_or row (some t) = t.slots
+slots_or row None = row
+slots_or row (Some t) = t.slots
 
 -- 64 empty slots; the row as it was where start is refused
 unfoldable pub start_row : Text → List Entry → List Entry

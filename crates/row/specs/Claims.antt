@@ -1,6 +1,5 @@
 -- What is claimed of the calls over a row; proved as `claims` in proofs/Claims.antt.
-use Rattle.std.specs.Prelude.{◌≡◌, true, false, ◌&&◌, List, ◌≤◌, length, take}
-use Rattle.std.proofs.Math.Option.{some}
+use Rattle.std.specs.Prelude.{◌≡◌, true, false, ◌&&◌, List, ◌≤◌, length, take, Some}
 use Rattle.octets.specs.Text.{Text, is_name}
 use Rattle.octets.specs.Part.{bare}
 use Rattle.partner.specs.declared.Entry.{Entry}
@@ -14,11 +13,11 @@ use Rattle.row.specs.Calls.{read_row, image_given}
 pub record Claims : Type 0 where
   -- the two faces agree: on the row of an image's table every call gives the answer, the reply and the table that it
   -- gives on the image
-  pub faces_agree : (image : Text) (t : Table) (c : Call) → decode image ≡ some t
+  pub faces_agree : (image : Text) (t : Table) (c : Call) → decode image ≡ Some t
       → over_row (bare t.own) t.slots c ≡ run t c
   -- the table of a legal row has an image, and the faces agree on it
   pub row_has_image : (own : Text) (slots : List Entry) (c : Call) → is_name own && legal (table own slots) ≡ true
-      → AllHeld slots → (decode (encode (table own slots)) ≡ some (table own slots)) × (over_row own slots c ≡ run (table own slots) c)
+      → AllHeld slots → (decode (encode (table own slots)) ≡ Some (table own slots)) × (over_row own slots c ≡ run (table own slots) c)
   -- 13: our identity is no name, or the table is not legal
   pub else_13 : (own : Text) (slots : List Entry) (c : Call) → is_name own && legal (table own slots) ≡ false
       → over_row own slots c ≡ refuse (table own slots) 13

@@ -1,7 +1,6 @@
 -- The order of the answers over a lent row, number by number: each is given where its condition holds and none earlier does
 -- (document 01, "Answers"). Proved as `orders` in proofs/Orders.antt.
-use Rattle.std.specs.Prelude.{◌≡◌, true, false, ◌&&◌, List, ℕ, ◌<◌, ◌≤◌, length}
-use Rattle.std.proofs.Math.Option.{none, some}
+use Rattle.std.specs.Prelude.{◌≡◌, true, false, ◌&&◌, List, ℕ, ◌<◌, ◌≤◌, length, None, Some}
 use Rattle.octets.specs.Text.{Text, is_name}
 use Rattle.partner.specs.declared.Entry.{Entry}
 use Rattle.partner.specs.Entry.{empty, filled}
@@ -27,9 +26,9 @@ pub record Orders : Type 0 where
   pub ask_13 : (own : Text) (slots : List Entry) (id : Text) → is_name own && legal (table own slots) ≡ false
       → asked own slots id ≡ record { answer = 13; slot = 64; entry = empty }
   pub ask_3 : (own : Text) (slots : List Entry) (id : Text) → is_name own && legal (table own slots) ≡ true
-      → entry_of id (table own slots) ≡ none → asked own slots id ≡ record { answer = 3; slot = 64; entry = empty }
+      → entry_of id (table own slots) ≡ None → asked own slots id ≡ record { answer = 3; slot = 64; entry = empty }
   pub ask_0 : (own : Text) (slots : List Entry) (id : Text) (e : Entry) → is_name own && legal (table own slots) ≡ true
-      → entry_of id (table own slots) ≡ some e → asked own slots id ≡ record { answer = 0; slot = slot_of (filled id) slots; entry = e }
+      → entry_of id (table own slots) ≡ Some e → asked own slots id ≡ record { answer = 0; slot = slot_of (filled id) slots; entry = e }
   -- start: 13 where the row has not 64 slots, 10, else 64 empty slots
   pub start_13 : (own : Text) (n : ℕ) → (n ≡ 64 → ⊥) → start_answer own n ≡ 13
   pub start_10 : (own : Text) → is_name own ≡ false → start_answer own 64 ≡ 10
@@ -37,8 +36,8 @@ pub record Orders : Type 0 where
       → (start_answer own 64 ≡ 0) × (start_row own row ≡ empties 64)
   -- image reading: 13 for the row, 13 for the image, else the image's slots
   pub read_13_row : (image : Text) (n : ℕ) → (n ≡ 64 → ⊥) → read_answer image n ≡ 13
-  pub read_13_image : (image : Text) → decode image ≡ none → read_answer image 64 ≡ 13
-  pub read_0 : (image : Text) (t : Table) (row : List Entry) → decode image ≡ some t → length row ≡ 64
+  pub read_13_image : (image : Text) → decode image ≡ None → read_answer image 64 ≡ 13
+  pub read_0 : (image : Text) (t : Table) (row : List Entry) → decode image ≡ Some t → length row ≡ 64
       → (read_answer image 64 ≡ 0) × (read_row image row ≡ t.slots)
   -- image writing: 13, 6 where the image does not fit, else the image
   pub write_13 : (own : Text) (slots : List Entry) (room : ℕ) → is_name own && legal (table own slots) ≡ false

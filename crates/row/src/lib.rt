@@ -5,32 +5,31 @@
 ghost use Rattle.std.specs.Prelude.{◌≡◌, length, set, get_or, drop};
 ghost use Rattle.partner.specs.Entry.{empty};
 ghost use Rattle.partner.specs.Table.{identities, differs};
+ghost use Rattle.image.specs.Image.{front_size, slots_in};
+ghost use Rattle.outcome.specs.Report.{report_of};
 ghost use Rattle.sight.specs.Asked.{call_of};
 ghost use Rattle.sight.specs.Sight as sights;
 ghost use Rattle.sight.specs.Table.{row_legal};
-ghost use Rattle.row.specs.Calls as calls;
-ghost use Rattle.row.specs.Stored as stored;
+ghost use Rattle.row.specs.Calls as given;
 
-mod parts;
 mod stored;
 
-use outcome::{Report, Turned};
+use calls::Refusal;
+use outcome::{Given, Report, Told};
 use partner::Entry;
 pub use sight::Found;
+use sight::Sight;
 use sight::aims::{Act, Aim};
-use sight::{Sight, aims};
 
 // The entry of a slot; an empty one past the end.
 pub fn look_up(row: &[Entry], at: usize) -> Entry
     ensures { result ≡ get_or row.now at empty }
 {
-    if at < row.len() {
-        return row[at];
-    }
-    partner::empty()
+    row.get(at).copied().unwrap_or(partner::empty())
 }
 
 // A slot given new contents, every other as it was; past the end nothing.
+// By its index: through `get_mut` the goals at the return speak of values that no proof may name.
 pub fn replace(row: &mut [Entry], at: usize, e: Entry)
     ensures { row.new ≡ set row.old at e }
 {
@@ -39,58 +38,64 @@ pub fn replace(row: &mut [Entry], at: usize, e: Entry)
     }
 }
 
-// Whether no partner from a slot on has the identity of e.
-fn apart(row: &[Entry], from: usize, e: Entry) -> bool
-    ensures { result ≡ differs e.identity.bytes (identities (drop from row.now)) }
+// Whether none of these partners has the identity of e.
+fn apart(later: &[Entry], e: &Entry) -> bool
+    ensures { result ≡ differs e.now.identity.bytes (identities later.now) }
 {
-    let mut differ = true;
-    let mut at = from;
-    while at < row.len() {
-        differ = sight::differ(differ, e, look_up(row, at));
-        at += 1;
-    }
-    differ
+    later.iter().all(|other| sight::differ(e, other))
 }
 
 // What is seen of the row: whether it is legal, and the slot that is sought.
-fn survey(row: &[Entry], aim: Aim) -> Sight
-    ensures { result ≡ sights.survey aim row.now }
+fn survey(row: &[Entry], aim: &Aim) -> Sight
+    ensures { result ≡ sights.survey aim.now row.now }
 {
-    let mut seen = sight::unseen();
-    let mut at = 0;
-    while at < row.len() {
-        let e = look_up(row, at);
-        seen = sight::see(aim, seen, at, e, apart(row, at + 1, e));
-        at += 1;
+    let mut seen = Sight::unseen();
+    for (at, e) in row.iter().enumerate() {
+        seen.see(aim, at, e, apart(&row[at + 1..], e));
     }
-    sight::concluded(aim, seen, at)
+    seen.conclude(aim, row.len());
+    seen
 }
 
 // Whether our identity is a name and the row is legal: what every call but start and image reading tests before all else.
+#[tactic(auto, using(sight::proofs::Rows::legal_is))]
 pub fn legal(row: &[Entry], own: &[u8]) -> bool
     ensures { result ≡ row_legal own.now row.now }
 {
-    let seen = survey(row, aims::ours(own));
-    sight::is_legal(seen)
+    survey(row, &Aim::ours(own)).legal
 }
 
 // Ask for an entry: 13, 3.
+#[tactic(auto, using(crate::proofs::Asking::asked_is))]
 pub fn ask(row: &[Entry], own: &[u8], partner: &[u8]) -> Found
-    ensures { result ≡ calls.asked own.now row.now partner.now }
+    ensures { result ≡ given.asked own.now row.now partner.now }
 {
-    sight::shown(survey(row, aims::at_partner(own, partner)))
+    survey(row, &Aim::at_partner(own, partner)).shown()
 }
 
-// A turn is put back: its entry in the slot that was found, every other as it was.
-fn settle(row: &mut [Entry], seen: Sight, turned: Turned) -> Report
-    ensures value { result ≡ turned.report }
-    ensures row_after { row.new ≡ set row.old seen.at turned.entry }
+// Whom a call is about, what is seen of the row, the turn of one entry, and it put back in its slot.
+fn turned(
+    row: &mut [Entry],
+    own: &[u8],
+    who: &[u8],
+    act: Act,
+    text: &[u8],
+    reply: &mut [u8],
+) -> Result<Given, Refusal>
+    ensures { given.Called own.now row.old
+        (call_of act (length reply.old) who.now text.now)
+        reply.old (report_of result) row.new reply.new }
 {
-    replace(row, sight::place(seen), parts::entry(turned));
-    parts::told(turned)
+    let aim = act.aim(own, who, text);
+    let seen = survey(row, &aim);
+    let turned = turn::take(own, &aim, &seen, act, text, reply)?;
+    if let Some(slot) = seen.slot {
+        replace(row, slot.at, turned.entry);
+    }
+    Ok(turned.given)
 }
 
-// Every call: whom it is about, what is seen of the row, the turn of one entry, and it put back.
+// Every call that turns an entry.
 pub fn call(
     row: &mut [Entry],
     own: &[u8],
@@ -99,79 +104,70 @@ pub fn call(
     text: &[u8],
     reply: &mut [u8],
 ) -> Report
-    ensures { calls.Called own.now row.old
+    ensures { given.Called own.now row.old
         (call_of act (length reply.old) who.now text.now)
         reply.old result row.new reply.new }
 {
-    let aim = aims::aim_of(own, who, act, text);
-    let seen = survey(row, aim);
-    let turned = turn::take(own, aim, seen, act, text, reply);
-    settle(row, seen, turned)
+    outcome::report_of(turned(row, own, who, act, text, reply))
 }
 
-// The row filled from an image, slot by slot, where the answer is 0.
-fn fill(row: &mut [Entry], image: &[u8], answer: u32)
-    ensures { row.new ≡ stored.refilled answer image.now row.old }
-{
-    let count = stored::filled(answer, row.len());
-    let mut at = 0;
-    while at < count {
-        row[at] = image::slot(image, at);
-        at += 1;
-    }
-}
-
-// Start: 13, 10. Behind our identity alone nothing is stored, so every slot is empty.
+// Start: 13, 10. 64 empty slots.
+// A number answers: `start_13`, `start_10` and `start_0` of specs/Orders speak of it.
+#[tactic(auto, using(crate::proofs::Starting::start_refused, crate::proofs::Starting::start_done))]
 pub fn start(row: &mut [Entry], own: &[u8]) -> u32
-    ensures { calls.Started own.now row.old result row.new }
+    ensures { given.Started own.now row.old result row.new }
 {
-    let answer = stored::start_answer(own, row.len());
-    fill(row, own, answer);
-    answer
+    if let Err(refusal) = stored::start_answer(own, row.len()) {
+        return refusal.number();
+    }
+    row.fill(partner::empty());
+    0
+}
+
+// The row filled from an image, slot by slot.
+// By a slot's number, which `image::slot` takes; of what goes through `iter_mut().enumerate()` no proof learns anything.
+fn fill(row: &mut [Entry], image: &[u8])
+    requires { length row.old ≡ 64 }
+    ensures { row.new ≡ slots_in 64 (drop front_size image.now) }
+{
+    for at in 0..row.len() {
+        row[at] = image::slot(image, at);
+    }
 }
 
 // Image reading: 13. The table that the image holds, slot by slot.
+// A number answers: `read_13_row`, `read_13_image` and `read_0` of specs/Orders speak of it.
+#[tactic(auto, using(crate::proofs::Starting::read_refused, crate::proofs::Starting::read_64, crate::proofs::Starting::read_done))]
 pub fn read_image(image: &[u8], row: &mut [Entry]) -> u32
-    ensures { calls.ImageRead image.now row.old result row.new }
+    ensures { given.ImageRead image.now row.old result row.new }
 {
-    let answer = stored::read_answer(image, row.len());
-    fill(row, image, answer);
-    answer
+    if let Err(refusal) = stored::read_answer(image, row.len()) {
+        return refusal.number();
+    }
+    fill(row, image);
+    0
 }
 
-// The size of the row's image: the front and the slots' records.
-fn size(row: &[Entry]) -> usize
-    ensures { result ≡ stored.size row.now }
+// The image of a legal row at the front of `out`, where it fits.
+fn written(row: &[Entry], own: &[u8], out: &mut [u8]) -> Result<Given, Refusal>
+    ensures { given.ImageWritten own.now row.now out.old (report_of result) out.new }
 {
-    let mut size = image::FRONT_SIZE;
-    let mut at = 0;
-    while at < row.len() {
-        size += stored::slot_length(look_up(row, at));
-        at += 1;
+    if !legal(row, own) {
+        return Err(Refusal::Illegal);
     }
-    size
-}
-
-// The slots' records laid behind the front, one after the other, where the answer is 0.
-fn lay(row: &[Entry], out: &mut [u8], answer: u32)
-    ensures { out.new ≡ stored.laid answer row.now out.old }
-{
-    let count = stored::filled(answer, row.len());
-    let mut to = image::FRONT_SIZE;
-    let mut at = 0;
-    while at < count {
-        to = stored::put_slot(out, to, look_up(row, at));
-        at += 1;
+    if out.len() < stored::size(row) {
+        return Err(Refusal::NoRoom);
     }
+    let length = stored::put_image(out, own, row);
+    Ok(Given::Done {
+        length,
+        told: Told::Nothing,
+    })
 }
 
 // Image writing: 13, 6 (the image does not fit). The whole image at the front of `out`, its length in the report.
 pub fn write_image(row: &[Entry], own: &[u8], out: &mut [u8]) -> Report
-    ensures { calls.ImageWritten own.now row.now out.old result out.new }
+    ensures { given.ImageWritten own.now row.now out.old result out.new }
 {
-    let ours = legal(row, own);
-    let size = size(row);
-    let answer = stored::write_answer(ours, size, out.len());
-    lay(row, out, answer);
-    stored::written(out, own, answer, size)
+    outcome::report_of(written(row, own, out))
 }

@@ -1,107 +1,104 @@
-// What start, image reading and image writing answer, and a row's records laid in a buffer.
+// What start and image reading answer, and a row's image laid in a buffer.
 ghost use Rattle.std.specs.Prelude.{◌≡◌, ◌≤◌, length};
 ghost use Rattle.octets.specs.Wrote.{Wrote};
-ghost use Rattle.image.specs.Image.{partner_size, slot_bytes};
+ghost use Rattle.calls.specs.Refusal.{answer_of};
+ghost use Rattle.image.specs.Image.{partner_size, slot_bytes, slots_bytes, encode};
+ghost use Rattle.sight.specs.Table.{table};
 ghost use Rattle.row.specs.Stored as stored;
 
-use outcome::Report;
+use calls::Refusal;
 use partner::Entry;
 
+// How many slots a row has.
+const SLOTS: usize = 64;
+
+// The kinds of records: an empty slot, our own identity, a partner.
+const VACANT: u8 = 0;
+
+const OURS: u8 = 1;
+
+const PARTNER: u8 = 2;
+
 // Start: 13 (the row has not 64 slots), 10 (our identity is malformed).
-pub fn start_answer(own: &[u8], slots: usize) -> u32
-    ensures { result ≡ stored.start_answer own.now slots }
+#[tactic(auto, unfolding(crate::specs::Stored::start_answer))]
+pub fn start_answer(own: &[u8], slots: usize) -> Result<(), Refusal>
+    ensures { answer_of result ≡ stored.start_answer own.now slots }
 {
-    let answer = octets::then(0, slots != 64, 13);
-    octets::then(answer, !octets::is_name(own), 10)
+    if slots != SLOTS {
+        return Err(Refusal::Illegal);
+    }
+    if !octets::is_name(own) {
+        return Err(Refusal::BadIdentity);
+    }
+    Ok(())
 }
 
 // Image reading: 13 (the row has not 64 slots, or the image is not legal).
-pub fn read_answer(image: &[u8], slots: usize) -> u32
-    ensures { result ≡ stored.read_answer image.now slots }
+#[tactic(auto, unfolding(crate::specs::Stored::read_answer))]
+pub fn read_answer(image: &[u8], slots: usize) -> Result<(), Refusal>
+    ensures { answer_of result ≡ stored.read_answer image.now slots }
 {
-    let answer = octets::then(0, slots != 64, 13);
-    octets::then(answer, !image::legal(image), 13)
-}
-
-// How many slots are to be filled: 64 with the answer 0, else none.
-pub fn filled(answer: u32, slots: usize) -> usize
-    ensures { result ≡ stored.slots_to_fill answer slots }
-{
-    if answer != 0 {
-        return 0;
+    if slots != SLOTS || !image::legal(image) {
+        return Err(Refusal::Illegal);
     }
-    if slots != 64 {
-        return 0;
-    }
-    64
+    Ok(())
 }
 
 // ---- image writing
 
 // The length of a slot's record.
-pub fn slot_length(e: Entry) -> usize
+// By value: of a lent entry it isn't known that each of its names has 16 bytes.
+#[tactic(auto, unfolding(image::specs::Image::slot_bytes))]
+fn slot_length(e: Entry) -> usize
     ensures value { result ≡ length (slot_bytes e) }
     ensures upper_bound { result ≤ partner_size }
 {
-    if sight::is_empty(e) {
+    if sight::is_empty(&e) {
         1
     } else {
         image::PARTNER_SIZE
     }
 }
 
+// The size of the row's image: the front and the slots' records.
+pub fn size(row: &[Entry]) -> usize
+    ensures { result ≡ stored.size row.now }
+{
+    let mut size = image::FRONT_SIZE;
+    for e in row {
+        size += slot_length(*e);
+    }
+    size
+}
+
 // A slot's record at the front of what is left: one byte 0, or 2 and the entry's record.
-fn put_record(rest: &mut [u8], e: Entry) -> usize
-    ensures { Wrote (slot_bytes e) rest.old rest.new result }
+#[tactic(auto, unfolding(image::specs::Image::slot_bytes), using(octets::proofs::Writing::wrote_rest))]
+fn put_slot(rest: &mut [u8], e: &Entry) -> usize
+    ensures { Wrote (slot_bytes e.now) rest.old rest.new result }
 {
     if sight::is_empty(e) {
-        return octets::fill(rest, 1, 0);
+        return octets::fill(rest, 1, VACANT);
     }
-    let a = octets::fill(rest, 1, 2);
-    a + record::put_whole(&mut rest[a..], e)
+    let a = octets::fill(rest, 1, PARTNER);
+    a + record::put_whole(&mut rest[a..], *e)
 }
 
-// A slot's record at a place, where there is room for it; the place behind it.
-pub fn put_slot(out: &mut [u8], at: usize, e: Entry) -> usize
-    ensures out_after { out.new ≡ stored.put_slot at e out.old }
-    ensures value { result ≡ stored.behind at e (length out.old) }
+// The slots' records, one after the other.
+fn put_slots(rest: &mut [u8], row: &[Entry]) -> usize
+    ensures { Wrote (slots_bytes row.now) rest.old rest.new result }
 {
-    let size = slot_length(e);
-    if out.len() < size {
-        return at;
+    let mut at = 0;
+    for e in row {
+        at += put_slot(&mut rest[at..], e);
     }
-    if out.len() - size < at {
-        return at;
-    }
-    at + put_record(&mut out[at..], e)
+    at
 }
 
-// Image writing: 13 (our identity is no name, or the row is not legal), 6 (the image does not fit).
-pub fn write_answer(legal: bool, size: usize, room: usize) -> u32
-    ensures { result ≡ stored.write_answer legal size room }
+// The image: our identity's record, filled, and the slots'; as much of it as there is room for.
+pub fn put_image(out: &mut [u8], own: &[u8], row: &[Entry]) -> usize
+    ensures { Wrote (encode (table own.now row.now)) out.old out.new result }
 {
-    let answer = octets::then(0, !legal, 13);
-    octets::then(answer, room < size, 6)
-}
-
-// Our identity's record, filled, as many bytes as there is room for.
-fn put_front(out: &mut [u8], own: &[u8]) -> usize
-    ensures { Wrote (stored.front own.now) out.old out.new result }
-{
-    let mut front = [1u8; image::FRONT_SIZE];
-    let name = partner::name_of(own);
-    octets::copy(&mut front[1..], &name.bytes);
-    octets::copy(out, &front)
-}
-
-// The front laid where the answer is 0, and the report.
-pub fn written(out: &mut [u8], own: &[u8], answer: u32, size: usize) -> Report
-    ensures value { result ≡ stored.write_report answer size }
-    ensures out_after { out.new ≡ stored.fronted answer own.now out.old }
-{
-    if answer != 0 {
-        return outcome::refusal(answer);
-    }
-    put_front(out, own);
-    outcome::told_nothing(size)
+    let a = octets::fill(out, 1, OURS);
+    let b = a + octets::copy(&mut out[a..], &partner::name_of(own).bytes);
+    b + put_slots(&mut out[b..], row)
 }

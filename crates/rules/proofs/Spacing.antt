@@ -2,11 +2,11 @@
 use mathlib.Core.Path.{◌≡◌, refl, sym, ap, ◌∙◌, subst}
 use mathlib.Core.Bool.{Bool, true, false, not, ◌&&◌, ◌||◌, and_assoc, true≢false}
 use mathlib.Core.List.{[], ◌∷◌, ◌++◌}
-use Prim.Native.Nat.{ℕ, zero, suc, ◌+◌, ◌-◌, ◌<◌}
+use Prim.Native.Nat.{ℕ, zero, suc, ◌+◌, ◌-◌, ◌≤◌}
 use Prim.Native.Char.{code}
 use native.Mathlib.Omega.{arith}
 use lib.Dec.{eqb}
-use lib.ListN.{length, drop, get_or, length-append}
+use lib.ListN.{length, take, drop, get_or, length-append}
 use borrow.Author.Tests.{ne_eqb, eqb-true, le-leb}
 use Rattle.octets.specs.Text.{Text, blank, all, run_char, is_name}
 use Rattle.octets.specs.Part.{bare}
@@ -151,28 +151,23 @@ filled_not s n = go (is_filled s) refl
     go true h = absurd (n (filled_length s h))
     go false h = h
 
--- ---- byte by byte
+-- ---- pair by pair
 
-module _ (s : Text) (l : length s ≡ 16) where
-  -- one byte more, with the next behind it
-  pub spaced_step : (f : Bool) (i : ℕ) → i < 15 → spaced s ≡ f && spaced (drop i s)
-      → spaced s ≡ (f && (letter (get_or s i 0) || eqb (get_or s i 0) blank && eqb (get_or s (i + 1) 0) blank)) && spaced (drop (i + 1) s)
-  spaced_step f i h e =
-      e ∙ ap (λ (t : Text). f && spaced t) (drop_step s i (omega arith))
-      ∙ ap (λ (t : Text). f && ((letter x || eqb x blank && blank_next t) && spaced (drop (i + 1) s))) (drop_step s (i + 1) (omega arith))
-      ∙ sym (and_assoc f (letter x || eqb x blank && eqb (get_or s (i + 1) 0) blank) (spaced (drop (i + 1) s)))
-    where
-      x : ℕ
-      x = get_or s i 0
+-- one pair more, at the front of the rest r
+pub spaced_pair : (f : Bool) (s r : Text) → 2 ≤ length r → spaced s ≡ f && spaced r
+    → let w = take 2 r in
+    spaced s ≡ (f && (letter (get_or w 0 0) || eqb (get_or w 0 0) blank && eqb (get_or w 1 0) blank)) && spaced (drop 1 r)
+spaced_pair f s [] h e = absurd (omega arith)
+spaced_pair f s (x ∷ []) h e = absurd (omega arith)
+spaced_pair f s (x ∷ y ∷ r) h e = e ∙ sym (and_assoc f (letter x || eqb x blank && eqb y blank) (spaced (y ∷ r)))
 
-  -- the last one
-  pub spaced_end : (f : Bool) → spaced s ≡ f && spaced (drop 15 s)
-      → spaced s ≡ f && (letter (get_or s 15 0) || eqb (get_or s 15 0) blank)
-  spaced_end f e =
-      e ∙ ap (λ (t : Text). f && spaced t) (drop_step s 15 (omega arith) ∙ ap (λ (t : Text). get_or s 15 0 ∷ t) (drop_end s 16 (omega arith)))
-      ∙ ap (λ (b : Bool). f && b) (alone (letter (get_or s 15 0)) (eqb (get_or s 15 0) blank))
-    where
-      alone : (a b : Bool) → (a || b && true) && true ≡ a || b
-      alone true b = refl
-      alone false true = refl
-      alone false false = refl
+-- the last byte alone
+pub spaced_last : (s : Text) → length s ≡ 16 → spaced (drop 15 s) ≡ letter (get_or s 15 0) || eqb (get_or s 15 0) blank
+spaced_last s l =
+    ap spaced (drop_step s 15 (omega arith) ∙ ap (λ (t : Text). get_or s 15 0 ∷ t) (drop_end s 16 (omega arith)))
+    ∙ alone (letter (get_or s 15 0)) (eqb (get_or s 15 0) blank)
+  where
+    alone : (a b : Bool) → (a || b && true) && true ≡ a || b
+    alone true b = refl
+    alone false true = refl
+    alone false false = refl

@@ -1,9 +1,10 @@
 // Keys and MACs: parity, sealing, the MAC, an IV's value.
 #![tactic(auto)]
 
-ghost use Rattle.std.specs.Prelude.{◌≡◌, cond, not, get_or};
+ghost use Rattle.std.specs.Prelude.{◌≡◌, cond, get_or};
+ghost use Rattle.dea.specs.Dea as dea;
 ghost use Rattle.keying.specs.Parity.{odd};
-ghost use Rattle.keying.specs.Keys.{odd_top, seal, unseal, halves, way, each, listed};
+ghost use Rattle.keying.specs.Keys.{odd_top, seal, unseal, halves, order, each, listed};
 ghost use Rattle.keying.specs.Mac.{mac_key, mac};
 ghost use Rattle.keying.specs.Iv.{last_key, conceal, reveal};
 
@@ -13,19 +14,11 @@ use keying::{Blocks, DataKeys, Top};
 pub fn odd(key: u64) -> bool
     ensures { result ≡ odd key }
 {
-    let mut rest = key;
-    let mut i: usize = 0;
-    while i < 8 {
-        if u64::count_ones(rest % 256) % 2 == 0 {
-            return false;
-        }
-        rest = rest / 256;
-        i += 1;
-    }
-    true
+    key.to_be_bytes().iter().all(|b| b.count_ones() % 2 == 1)
 }
 
 // Odd parity of each half in use.
+#[tactic(auto, unfolding(keying::specs::Keys::odd_top))]
 pub fn odd_top(top: Top) -> bool
     ensures { result ≡ odd_top top }
 {
@@ -45,59 +38,44 @@ fn left_half(key: Top) -> u64
     }
 }
 
-// A block enciphered under a schedule or, back, deciphered.
-fn step(back: bool, ks: &[u64], x: u64) -> u64
-    ensures { result ≡ way back ks.now x }
+// A schedule brought into its order: K1 first or, back, K16 first.
+fn order(back: bool, ks: &mut [u64])
+    ensures { ks.new ≡ order back ks.old }
 {
     if back {
-        return cipher::decipher_with(ks, x);
+        ks.reverse();
     }
-    cipher::encipher_with(ks, x)
 }
 
-// A block through the halves of a pair: ede or, back, ded.
-fn three_steps<'a>(back: bool, left: &'a [u64], right: &'a [u64], x: u64) -> u64
-    ensures { result ≡ way back left.now (way (not back) right.now (way back left.now x)) }
+// A block through the halves of a pair, each by its schedule in its order: ede or ded.
+fn three_steps(left: &[u64], right: &[u64], x: u64) -> u64
+    ensures { result ≡ dea.cipher left.now (dea.cipher right.now (dea.cipher left.now x)) }
 {
-    step(back, left, step(!back, right, step(back, left, x)))
+    cipher::encipher_with(
+        left,
+        cipher::encipher_with(right, cipher::encipher_with(left, x)),
+    )
 }
 
 // Data keys under a working key or, back, from under it: each half is scheduled once for both.
 // One function for both ways: with two callers it keeps its schedules out of their stack frames.
+#[tactic(auto, using(keying::proofs::Laws::single_way, keying::proofs::Laws::pair_way), unfolding(keying::specs::Keys::each))]
 fn steps(back: bool, key: Top, blocks: Blocks) -> Blocks
     ensures { result ≡ each (cond back (unseal key) (seal key)) blocks }
 {
-    let l = cipher::key_schedule(left_half(key));
+    let mut l = cipher::key_schedule(left_half(key));
+    order(back, &mut l);
     match key {
-        Top::Single(_) => {
-            let first = step(back, &l, blocks.first);
-            if !blocks.two {
-                return Blocks {
-                    first,
-                    second: 0,
-                    two: false,
-                };
-            }
-            Blocks {
-                first,
-                second: step(back, &l, blocks.second),
-                two: true,
-            }
-        }
+        Top::Single(_) => Blocks {
+            first: cipher::encipher_with(&l, blocks.first),
+            second: blocks.second.map(|x| cipher::encipher_with(&l, x)),
+        },
         Top::Pair(_, right) => {
-            let r = cipher::key_schedule(right);
-            let first = three_steps(back, &l, &r, blocks.first);
-            if !blocks.two {
-                return Blocks {
-                    first,
-                    second: 0,
-                    two: false,
-                };
-            }
+            let mut r = cipher::key_schedule(right);
+            order(!back, &mut r);
             Blocks {
-                first,
-                second: three_steps(back, &l, &r, blocks.second),
-                two: true,
+                first: three_steps(&l, &r, blocks.first),
+                second: blocks.second.map(|x| three_steps(&l, &r, x)),
             }
         }
     }
@@ -118,6 +96,7 @@ pub fn unseal(key: Top, sealed: Blocks) -> Blocks
 }
 
 // The key of a MAC: the one data key, or the exclusive-or of the two.
+#[tactic(auto, unfolding(keying::specs::Mac::mac_key))]
 pub fn mac_key(keys: DataKeys) -> u64
     ensures { result ≡ mac_key (listed keys) }
 {
@@ -129,6 +108,7 @@ pub fn mac_key(keys: DataKeys) -> u64
 }
 
 // The MAC of a text: the left 32 bits of its last block, chained from a zero start.
+#[tactic(auto, unfolding(keying::specs::Mac::mac))]
 pub fn mac(key: u64, text: &[u8]) -> u32
     ensures { result ≡ mac key text.now }
 {
@@ -137,6 +117,7 @@ pub fn mac(key: u64, text: &[u8]) -> u32
 }
 
 // The key of an IV: the second data key if there are two.
+#[tactic(auto, unfolding(keying::specs::Iv::last_key))]
 fn last_key(keys: DataKeys) -> u64
     ensures { result ≡ last_key (listed keys) }
 {
@@ -148,6 +129,7 @@ fn last_key(keys: DataKeys) -> u64
 }
 
 // The value of an IV, enciphered.
+#[tactic(auto, unfolding(keying::specs::Iv::conceal))]
 pub fn conceal(keys: DataKeys, value: u64) -> u64
     ensures { result ≡ conceal (listed keys) value }
 {
@@ -155,6 +137,7 @@ pub fn conceal(keys: DataKeys, value: u64) -> u64
 }
 
 // The value of an IV, deciphered.
+#[tactic(auto, unfolding(keying::specs::Iv::reveal))]
 pub fn reveal(keys: DataKeys, concealed: u64) -> u64
     ensures { result ≡ reveal (listed keys) concealed }
 {

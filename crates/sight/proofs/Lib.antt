@@ -3,5 +3,4 @@ pub mod Seeing
 pub mod Rows
 pub mod Finding
 pub mod Sees
-pub mod Showing
 pub mod Determined

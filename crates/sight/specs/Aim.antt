@@ -1,76 +1,47 @@
 -- Whom a call is about: our identity and the partner's, what a text is refused for before its partner is looked up, and the
 -- room that is asked for.
-use Rattle.std.specs.Prelude.{true, false, not, cond, [], ℕ}
-use Rattle.std.proofs.Math.Option.{Option, none, some}
+use Rattle.std.specs.Prelude.{true, false, not, cond, ℕ, Option, None, Some}
 use Rattle.octets.specs.Text.{Text, same, is_name}
-use Rattle.octets.specs.Part.{part}
 use Rattle.csm.specs.Message.{Reading, read}
+use Rattle.partner.specs.declared.Name.{Name}
 use Rattle.partner.specs.Entry.{name_of}
-use Rattle.reader.specs.declared.Head.{Head}
+use Rattle.calls.specs.declared.Refusal.{Refusal}
+use Rattle.calls.specs.declared.Refusal.TheVariants.{NoMessage, ForAnother}
 use Rattle.sight.specs.declared.aims.Aim.{Aim}
 use Rattle.sight.specs.declared.aims.Act.{Act}
 use Rattle.sight.specs.declared.aims.Act.TheVariants.{Receive, BuildKsm, BuildRsi, GiveUp, Remove, Ask, Load}
 
+-- an identity as it is kept, where it is well-formed
+abbrev pub identity : Text → Option Name
+identity w = cond (is_name w) (Some (name_of w)) None
+
+-- ourselves, and nobody else
+abbrev pub ours : Text → Aim
+ours own = record { own = identity own; partner = None; vacant = false; refused = None; room = 0 }
+
 -- a partner by its identity
 abbrev pub at_partner : Text → Text → Aim
-at_partner own id = record {
-  own = name_of own;
-  ours = is_name own;
-  partner = name_of id;
-  theirs = is_name id;
-  vacant = false;
-  answer = 0;
-  room = 0;
-}
+at_partner own id = record { own = identity own; partner = identity id; vacant = false; refused = None; room = 0 }
 
 -- a free slot for a partner
 abbrev pub at_free_slot : Text → Text → Aim
-at_free_slot own id = record {
-  own = name_of own;
-  ours = is_name own;
-  partner = name_of id;
-  theirs = is_name id;
-  vacant = true;
-  answer = 0;
-  room = 0;
-}
+at_free_slot own id = record { own = identity own; partner = identity id; vacant = true; refused = None; room = 0 }
 
 -- nobody: the text is refused
-abbrev pub refused : Text → ℕ → Aim
-refused own n = record {
-  own = name_of own;
-  ours = is_name own;
-  partner = name_of [];
-  theirs = is_name [];
-  vacant = false;
-  answer = n;
-  room = 0;
-}
+abbrev pub refused : Text → Refusal → Aim
+refused own r = record { own = identity own; partner = None; vacant = false; refused = Some r; room = 0 }
 
--- the originator of a text to us, by the lengths of RCV and ORG; 2 where RCV is not us
-unfoldable pub originator : Text → Text → Head → Aim
-originator own text head =
-    cond (not (same (part text head.rcv) own)) (refused own 2) (at_partner own (part text head.org))
-
--- the same of a text's reading; 1 where there is none
+-- the originator of a text to us; 2 where RCV is not us, 1 where there is no reading
 unfoldable pub of_reading : Text → Option Reading → Aim
-of_reading own none = refused own 1
-of_reading own (some r) = cond (not (same r.rcv own)) (refused own 2) (at_partner own r.org)
+of_reading own None = refused own NoMessage
+of_reading own (Some r) = cond (not (same r.rcv own)) (refused own ForAnother) (at_partner own r.org)
 
 abbrev pub of_text : Text → Text → Aim
 of_text own text = of_reading own (read text)
 
 -- the same, and this room is asked for
 abbrev pub with_room : Aim → ℕ → Aim
-with_room a room = record {
-  own = a.own;
-  ours = a.ours;
-  partner = a.partner;
-  theirs = a.theirs;
-  vacant = a.vacant;
-  answer = a.answer;
-  room = room;
-}
+with_room a room = record { own = a.own; partner = a.partner; vacant = a.vacant; refused = a.refused; room = room }
 
 -- by whom, of whom, and the text that goes with it: a reply may follow what is received and what is built; a load seeks a
 -- free slot

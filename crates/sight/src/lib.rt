@@ -1,25 +1,31 @@
 // What is seen of a row, slot by slot.
 #![tactic(auto)]
 
-ghost use Rattle.std.specs.Prelude.{◌≡◌, ◌&&◌, ◌||◌};
-ghost use Rattle.octets.specs.Text.{same};
+ghost use Rattle.std.specs.Prelude.{◌≡◌};
+ghost use Rattle.partner.specs.Entry.{empty};
 ghost use Rattle.partner.specs.Table.{is_empty};
+ghost use Rattle.calls.specs.Refusal.{number};
 ghost use Rattle.sight.specs.Sight as sights;
 
 pub mod aims;
 
 use aims::Aim;
+use calls::Refusal;
 use partner::{Entry, Name};
 
-// Whether the row is legal, whether the partner is in it, and the slot that is sought: whether there is one, where, and
-// its entry.
+// A slot: its place and its entry.
+#[derive(Clone, Copy)]
+pub struct Slot {
+    pub at: usize,
+    pub entry: Entry,
+}
+
+// Whether the row is legal, whether the partner is in it, and the slot that is sought.
 #[derive(Clone, Copy)]
 pub struct Sight {
     pub legal: bool,
     pub taken: bool,
-    pub there: bool,
-    pub at: usize,
-    pub entry: Entry,
+    pub slot: Option<Slot>,
 }
 
 // The part of it that the order of answers asks for.
@@ -31,6 +37,7 @@ pub struct Glance {
 }
 
 // What was looked up: the answer so far, the number of the slot, and its entry.
+// Flat: `ask_13`, `ask_3` and `ask_0` of row/specs/Orders speak of its numbers.
 #[derive(Clone, Copy)]
 pub struct Found {
     pub answer: u32,
@@ -38,159 +45,122 @@ pub struct Found {
     pub entry: Entry,
 }
 
-// Whether a slot is empty: zero in every byte.
-pub fn is_empty(e: Entry) -> bool
-    ensures { result ≡ is_empty e }
+// Whether a slot is empty: zero in every byte of its record, of which `is_empty` of partner/specs/Table speaks.
+#[tactic(auto, unfolding(partner::specs::Table::is_empty, partner::specs::Record::put_entry))]
+pub fn is_empty(e: &Entry) -> bool
+    ensures { result ≡ is_empty e.now }
 {
-    let mut bytes = [0u8; record::SIZE];
-    let zero = [0u8; record::SIZE];
-    record::put_entry(&mut bytes, e);
-    octets::same(&bytes, &zero)
+    let mut bytes = [0; record::SIZE];
+    record::put_entry(&mut bytes, *e);
+    bytes == [0; record::SIZE]
 }
 
-// Whether an entry has that identity.
-fn is_named(e: Entry, name: Name) -> bool
-    ensures { result ≡ same e.identity.bytes name.bytes }
+// Whether an entry has that identity; none has one that is no name.
+fn is_of(identity: Option<Name>, e: &Entry) -> bool
+    ensures { result ≡ sights.is_of identity e.now }
 {
-    let identity = e.identity;
-    octets::same(&identity.bytes, &name.bytes)
+    match identity {
+        Some(name) => e.identity.bytes == name.bytes,
+        None => false,
+    }
 }
 
-// Whether all so far and a later slot do not have the identity of e.
-pub fn differ(all: bool, e: Entry, later: Entry) -> bool
-    ensures { result ≡ all && sights.differ e later }
+// Whether a later slot does not have the identity of e.
+#[tactic(auto, unfolding(crate::specs::Sight::differ))]
+pub fn differ(e: &Entry, later: &Entry) -> bool
+    ensures { result ≡ sights.differ e.now later.now }
 {
-    if !all {
-        return false;
-    }
-    if is_empty(later) {
-        return true;
-    }
-    !is_named(later, e.identity)
+    is_empty(later) || !is_of(Some(e.identity), later)
 }
 
-// Whether a slot is as it must be: empty, or a legal entry with an identity of its own.
-fn slot_legal(aim: Aim, e: Entry, apart: bool) -> bool
-    ensures { result ≡ sights.slot_legal aim e apart }
-{
-    if is_empty(e) {
-        return true;
+impl Aim {
+    // Whether a slot is as it must be: empty, or a legal entry with an identity of its own.
+    #[tactic(auto, unfolding(crate::specs::Sight::slot_legal))]
+    fn slot_legal(&self, e: &Entry, apart: bool) -> bool
+        ensures { result ≡ sights.slot_legal self.now e.now apart }
+    {
+        is_empty(e) || (apart && !is_of(self.own, e) && rules::legal(*e))
     }
-    if !apart {
-        return false;
+
+    // Whether a slot is the partner's.
+    #[tactic(auto, unfolding(crate::specs::Sight::is_theirs))]
+    fn is_theirs(&self, e: &Entry) -> bool
+        ensures { result ≡ sights.is_theirs self.now e.now }
+    {
+        is_of(self.partner, e)
     }
-    if is_named(e, aim.own) {
-        return false;
+
+    // Whether a slot is the one that is sought: a free one, or the partner's.
+    #[tactic(auto, unfolding(crate::specs::Sight::is_sought))]
+    fn is_sought(&self, e: &Entry) -> bool
+        ensures { result ≡ sights.is_sought self.now e.now }
+    {
+        if self.vacant {
+            is_empty(e)
+        } else {
+            self.is_theirs(e)
+        }
     }
-    rules::legal(e)
 }
 
-// Whether a slot is the partner's.
-fn is_theirs(aim: Aim, e: Entry) -> bool
-    ensures { result ≡ sights.is_theirs aim e }
+// What is shown with a refusal.
+fn not_shown(refusal: Refusal) -> Found
+    ensures { result ≡ sights.shown_at (number refusal) 64 empty }
 {
-    aim.theirs && is_named(e, aim.partner)
-}
-
-// Whether a slot is the one that is sought: a free one, or the partner's.
-fn is_sought(aim: Aim, e: Entry) -> bool
-    ensures { result ≡ sights.is_sought aim e }
-{
-    if aim.vacant {
-        return is_empty(e);
-    }
-    is_theirs(aim, e)
-}
-
-// Nothing is seen yet.
-pub fn unseen() -> Sight
-    ensures { result ≡ sights.unseen }
-{
-    Sight {
-        legal: true,
-        taken: false,
-        there: false,
-        at: 0,
+    Found {
+        answer: refusal.number(),
+        slot: 64,
         entry: partner::empty(),
     }
 }
 
-// Whether both hold.
-fn both(a: bool, b: bool) -> bool
-    ensures { result ≡ a && b }
-{
-    a && b
-}
-
-// Whether one of them holds.
-fn either(a: bool, b: bool) -> bool
-    ensures { result ≡ a || b }
-{
-    a || b
-}
-
-// The slot at a place is seen; `apart` where no later one has its identity.
-pub fn see(aim: Aim, seen: Sight, at: usize, e: Entry, apart: bool) -> Sight
-    ensures { result ≡ sights.see aim seen at e apart }
-{
-    let mut next = seen;
-    next.legal = both(seen.legal, slot_legal(aim, e, apart));
-    next.taken = either(seen.taken, is_theirs(aim, e));
-    if seen.there {
-        return next;
+impl Sight {
+    // Nothing is seen yet.
+    pub fn unseen() -> Sight
+        ensures { result ≡ sights.unseen }
+    {
+        Sight {
+            legal: true,
+            taken: false,
+            slot: None,
+        }
     }
-    if is_sought(aim, e) {
-        next.there = true;
-        next.at = at;
-        next.entry = e;
+
+    // The slot at a place is seen; `apart` where no later one has its identity.
+    #[tactic(auto, unfolding(crate::specs::Sight::see))]
+    pub fn see(&mut self, aim: &Aim, at: usize, e: &Entry, apart: bool)
+        ensures { self.new ≡ sights.see aim.now self.old at e.now apart }
+    {
+        self.legal = self.legal && aim.slot_legal(e, apart);
+        self.taken = self.taken || aim.is_theirs(e);
+        if self.slot.is_none() && aim.is_sought(e) {
+            self.slot = Some(Slot { at, entry: *e });
+        }
     }
-    next
-}
 
-// All slots are seen: legal with 64 of them and our own identity well-formed; where none is the one that is sought, the
-// place behind the last.
-pub fn concluded(aim: Aim, seen: Sight, count: usize) -> Sight
-    ensures { result ≡ sights.concluded aim seen count }
-{
-    let mut last = seen;
-    last.legal = both(both(seen.legal, count == 64), aim.ours);
-    if seen.there {
-        return last;
+    // All slots are seen: legal with 64 of them and our own identity well-formed.
+    #[tactic(auto, unfolding(crate::specs::Sight::concluded))]
+    pub fn conclude(&mut self, aim: &Aim, count: usize)
+        ensures { self.new ≡ sights.concluded aim.now self.old count }
+    {
+        self.legal = self.legal && count == 64 && aim.own.is_some();
     }
-    last.at = count;
-    last
-}
 
-// The place of the slot that is sought.
-pub fn place(seen: Sight) -> usize
-    ensures { result ≡ seen.at }
-{
-    seen.at
-}
-
-// Whether the row is legal.
-pub fn is_legal(seen: Sight) -> bool
-    ensures { result ≡ seen.legal }
-{
-    seen.legal
-}
-
-// The answer to who asks for an entry, the number of its slot, and the entry; 64 and an empty one with a refusal.
-pub fn shown(seen: Sight) -> Found
-    ensures { result ≡ sights.shown seen }
-{
-    let answer = octets::then(octets::then(0, !seen.legal, 13), !seen.there, 3);
-    if answer != 0 {
-        return Found {
-            answer,
-            slot: 64,
-            entry: partner::empty(),
-        };
-    }
-    let entry = seen.entry;
-    Found {
-        answer: 0,
-        slot: seen.at,
-        entry,
+    // The answer to who asks for an entry, the number of its slot, and the entry; 64 and an empty one with a refusal.
+    #[tactic(auto, unfolding(crate::specs::Sight::shown))]
+    pub fn shown(&self) -> Found
+        ensures { result ≡ sights.shown self.now }
+    {
+        if !self.legal {
+            return not_shown(Refusal::Illegal);
+        }
+        match self.slot {
+            Some(slot) => Found {
+                answer: 0,
+                slot: slot.at,
+                entry: slot.entry,
+            },
+            None => not_shown(Refusal::NoPartner),
+        }
     }
 }

@@ -1,12 +1,12 @@
 -- Over whatever has been seen of a legal table, a call about one entry ends as it does on that table.
+use Rattle.std.specs.Prelude.{Option, None, Some}
+use Rattle.std.specs.List.{find as first}
 use mathlib.Core.Path.{◌≡◌, refl, sym, ap, ◌∙◌, subst}
 use mathlib.Core.Bool.{Bool, true, false, not, cond, ◌&&◌}
 use mathlib.Core.List.{List}
-use mathlib.Core.Option.{Option, none, some}
 use Prim.Native.Nat.{ℕ}
 use native.Mathlib.Omega.{arith}
 use lib.Dec.{ltb}
-use lib.ListN.{set}
 use Rattle.octets.specs.Text.{Text, same, is_name}
 use Rattle.octets.specs.Part.{bare}
 use Rattle.octets.specs.First as orders
@@ -28,15 +28,15 @@ use Rattle.sight.specs.declared.aims.Act.{Act}
 use Rattle.sight.specs.declared.aims.Act.TheVariants.{Receive}
 use Rattle.sight.specs.declared.aims.Aim.{Aim}
 use Rattle.sight.specs.declared.Sight.{Sight}
-use Rattle.sight.specs.Aim.{at_partner, refused as nobody, of_reading, with_room}
-use Rattle.sight.specs.Sight.{is_sought}
+use Rattle.calls.specs.declared.Refusal.TheVariants.{NoMessage, ForAnother}
+use Rattle.sight.specs.Aim.{identity, at_partner, refused as nobody, of_reading, with_room}
+use Rattle.sight.specs.Sight.{is_sought, put_in}
 use Rattle.sight.specs.Table.{table}
-use Rattle.sight.proofs.Rows.{first}
 use Rattle.sight.proofs.Finding.{first_named, first_unnamed, putting_named}
 use Rattle.sight.proofs.Sees.{Sees, keeps}
 use Rattle.turn.specs.Way.{looking_up, by_act, glance, refusal, turn, take}
 use Rattle.turn.proofs.Acting.{way_refused, way_turned}
-use Rattle.turn.proofs.Answers.{gives_13, gives_6, gives_further, looks_answer, looks_3, looks_0}
+use Rattle.turn.proofs.Answers.{gives_13, gives_6, gives_further, looks_refused, looks_3, looks_0}
 
 -- ---- ends
 
@@ -46,7 +46,7 @@ module _ (own : Text) (slots : List Entry) where
 
   -- the outcome of a turn and the slots with its entry put back, against a call's outcome and its table
   abbrev pub Ends : Sight → Turn → After → Type 0
-  Ends s r w = (r.outcome ≡ w.outcome) × (set slots s.at r.entry ≡ w.table.slots)
+  Ends s r w = (r.outcome ≡ w.outcome) × (put_in s.slot r.entry slots ≡ w.table.slots)
 
   module _ (a : Aim) (s : Sight) (z : Sees own slots a s) (q : Act) (text : Text) (room : ℕ) where
     abbrev pub Ended : After → Type 0
@@ -56,7 +56,7 @@ module _ (own : Text) (slots : List Entry) where
     pub refuses : (n : ℕ) → n ≡ refusal a s q text room → (n ≡ 0 → ⊥) → Ended (refuse t n)
     refuses n e h =
         let k = way_refused own a s q text room n e h in
-        (ap (λ (r : Turn). r.outcome) k, ap (λ (r : Turn). set slots s.at r.entry) k ∙ keeps z)
+        (ap (λ (r : Turn). r.outcome) k, ap (λ (r : Turn). put_in s.slot r.entry slots) k ∙ keeps z)
 
     -- 13: our identity is no name, or the table is not legal
     pub unlawful : is_name own && legal t ≡ false → Ended (refuse t 13)
@@ -71,24 +71,24 @@ module _ (own : Text) (slots : List Entry) where
 
       -- at the partner's entry: 3, else its turn
       module _ (named : is_name own ≡ true) (lawful : legal t ≡ true) (id : Text) (f : Entry → Turn)
-          (v : a.vacant ≡ false) (i : a.theirs ≡ is_name id) (p : a.partner.bytes ≡ filled id) (n : a.answer ≡ 0)
+          (v : a.vacant ≡ false) (p : a.partner ≡ identity id) (n : a.refused ≡ None)
           (o : by_act q a (glance s) text ≡ looking_up a (glance s)) (roomy : ltb room a.room ≡ false)
           (turning : (e : Entry) → partner.legal e ≡ true → turn own a.partner e q text room ≡ f e) where
         looks : orders.first (looking_up a (glance s)) ≡ refusal a s q text room
         looks = sym (ap orders.first o) ∙ gives_further a s q text room l roomy
 
-        missed : first (is_sought a) slots ≡ none → Ended (refuse t 3)
-        missed h = refuses 3 (looks_3 a (glance s) n (z.missed l h).0 ∙ looks) (λ z. absurd (omega arith))
+        missed : first (is_sought a) slots ≡ None → Ended (refuse t 3)
+        missed h = refuses 3 (looks_3 a (glance s) n (rw (z.missed l h)) ∙ looks) (λ z. absurd (omega arith))
 
-        hit : (e : Entry) → is_name id ≡ true → find (filled id) slots ≡ some e → Ended (every.after_turn t id f (some e))
+        hit : (e : Entry) → is_name id ≡ true → find (filled id) slots ≡ Some e → Ended (every.after_turn t id f (Some e))
         hit e m h =
-            let k = z.found l e (first_named a id v i p slots m ∙ h) in
+            let k = z.found l e (first_named a id v p slots m ∙ h) in
             let good = held_legal t id e lawful (held t id e m h) in
             let r : take own a s q text room ≡ f e = way_turned own a s q text room 0 (looks_0 a (glance s) n k.0 ∙ looks) refl
             ∙ ap (λ (x : Entry). turn own a.partner x q text room) k.1 ∙ turning e good in (
               ap (λ (r : Turn). r.outcome) r,
-              ap (λ (r : Turn). set slots s.at r.entry) r ∙ k.2 (f e).entry
-                  ∙ putting_named a id v i p slots m (f e).entry,
+              ap (λ (r : Turn). put_in s.slot r.entry slots) r ∙ k.2 (f e).entry
+                  ∙ putting_named a id v p slots m (f e).entry,
             )
 
         pub at_entry : Ended (every.at_partner t id f)
@@ -96,8 +96,8 @@ module _ (own : Text) (slots : List Entry) where
         at_entry = by_name (is_name id) refl
           where
             by_entry : is_name id ≡ true → (o : Option Entry) → find (filled id) slots ≡ o → Ended (every.after_turn t id f o)
-            by_entry m none h = missed (first_named a id v i p slots m ∙ h)
-            by_entry m (some e) h = hit e m h
+            by_entry m None h = missed (first_named a id v p slots m ∙ h)
+            by_entry m (Some e) h = hit e m h
 
             by_name : (b : Bool) → is_name id ≡ b → Ended (every.after_turn t id f (every.entry_of id t))
             by_name true m =
@@ -105,7 +105,7 @@ module _ (own : Text) (slots : List Entry) where
                 (by_entry m (find (filled id) slots) refl)
             by_name false m =
                 subst (λ (o : Option Entry). Ended (every.after_turn t id f o)) (sym (if_false (is_name id) _ _ m))
-                (missed (first_unnamed a id v i p slots m))
+                (missed (first_unnamed a id v p slots m))
 
   -- ---- every act in a legal table
 
@@ -126,11 +126,11 @@ module _ (own : Text) (slots : List Entry) where
         → Sees own slots (with_room (of_reading own o) 256) s
         → Ends s (take own (with_room (of_reading own o) 256) s Receive text room) (every.receiving t text o)
     unfolding every.receiving of_reading turn turns.receive turns.receive_read
-    receiving s text room l h none e z =
-        let a = with_room (nobody own 1) 256 in
+    receiving s text room l h None e z =
+        let a = with_room (nobody own NoMessage) 256 in
         refuses a s z Receive text room 1
-        (looks_answer a (glance s) (λ z. absurd (omega arith)) ∙ gives_further a s Receive text room l h) (λ z. absurd (omega arith))
-    receiving s text room l h (some r) e z = by_rcv (same r.rcv own) refl z
+        (looks_refused a (glance s) NoMessage refl ∙ gives_further a s Receive text room l h) (λ z. absurd (omega arith))
+    receiving s text room l h (Some r) e z = by_rcv (same r.rcv own) refl z
       where
         w : Entry → Turn
         w x = by_class.receive (bare t.own) x text r.body
@@ -149,20 +149,20 @@ module _ (own : Text) (slots : List Entry) where
         rest = in_case not (same r.rcv (bare t.own)) then refuse t 2 else every.at_partner t r.org w
 
         by_rcv : (b : Bool) → same r.rcv own ≡ b
-            → Sees own slots (with_room (cond (not (same r.rcv own)) (nobody own 2) (at_partner own r.org)) 256) s
-            → Ends s (take own (with_room (cond (not (same r.rcv own)) (nobody own 2) (at_partner own r.org)) 256) s Receive text room) rest
+            → Sees own slots (with_room (cond (not (same r.rcv own)) (nobody own ForAnother) (at_partner own r.org)) 256) s
+            → Ends s (take own (with_room (cond (not (same r.rcv own)) (nobody own ForAnother) (at_partner own r.org)) 256) s Receive text room) rest
         by_rcv false k =
-            let a = with_room (nobody own 2) 256 in
-            subst (λ (b : Bool). Sees own slots (with_room (cond (not b) (nobody own 2) (at_partner own r.org)) 256) s
-            → Ends s (take own (with_room (cond (not b) (nobody own 2) (at_partner own r.org)) 256) s Receive text room) rest)
+            let a = with_room (nobody own ForAnother) 256 in
+            subst (λ (b : Bool). Sees own slots (with_room (cond (not b) (nobody own ForAnother) (at_partner own r.org)) 256) s
+            → Ends s (take own (with_room (cond (not b) (nobody own ForAnother) (at_partner own r.org)) 256) s Receive text room) rest)
             (sym k) (λ z.
             subst (Ends s (take own a s Receive text room)) (sym (if_true (not (same r.rcv (bare t.own))) _ _ (ap not (known ∙ k))))
             (refuses a s z Receive text room 2
-            (looks_answer a (glance s) (λ z. absurd (omega arith)) ∙ gives_further a s Receive text room l h) (λ z. absurd (omega arith))))
+            (looks_refused a (glance s) ForAnother refl ∙ gives_further a s Receive text room l h) (λ z. absurd (omega arith))))
         by_rcv true k =
             let a = with_room (at_partner own r.org) 256 in
-            subst (λ (b : Bool). Sees own slots (with_room (cond (not b) (nobody own 2) (at_partner own r.org)) 256) s
-            → Ends s (take own (with_room (cond (not b) (nobody own 2) (at_partner own r.org)) 256) s Receive text room) rest)
+            subst (λ (b : Bool). Sees own slots (with_room (cond (not b) (nobody own ForAnother) (at_partner own r.org)) 256) s
+            → Ends s (take own (with_room (cond (not b) (nobody own ForAnother) (at_partner own r.org)) 256) s Receive text room) rest)
             (sym k) (λ z.
             subst (Ends s (take own a s Receive text room)) (sym (if_false (not (same r.rcv (bare t.own))) _ _ (ap not (known ∙ k))))
-            (at_entry a s z Receive text room l named lawful r.org w refl refl refl refl refl h turning))
+            (at_entry a s z Receive text room l named lawful r.org w refl refl refl refl h turning))

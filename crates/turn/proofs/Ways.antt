@@ -1,11 +1,11 @@
 -- One way for every call: over whatever has been seen of a table, a call ends as it does on that table.
+use Rattle.std.specs.Prelude.{Option}
 use mathlib.Core.Path.{◌≡◌, refl, sym, ap, ◌∙◌, subst}
 use mathlib.Core.Bool.{Bool, true, false, not, cond, ◌&&◌}
 use mathlib.Core.List.{List}
 use Prim.Native.Nat.{ℕ}
 use native.Mathlib.Omega.{arith}
 use lib.Dec.{eqb, ltb}
-use lib.ListN.{set}
 use borrow.Author.Tests.{le-ltb}
 use Rattle.octets.specs.Text.{Text, is_name}
 use Rattle.octets.specs.First.{first}
@@ -25,6 +25,7 @@ use Rattle.sight.specs.declared.aims.Act.TheVariants.{Receive, BuildKsm, BuildRs
 use Rattle.sight.specs.declared.aims.Aim.{Aim}
 use Rattle.sight.specs.declared.Sight.{Sight}
 use Rattle.sight.specs.declared.Glance.{Glance}
+use Rattle.sight.specs.Sight.{entry_in, put_in}
 use Rattle.sight.specs.Aim.{with_room, aim_of}
 use Rattle.sight.specs.Asked.{call_of}
 use Rattle.request.specs.Request.{request_in}
@@ -54,22 +55,22 @@ module _ (own : Text) (slots : List Entry) where
       receiving own slots n w s text room l h (read text) refl z)
   performed s BuildKsm who text room n w l z =
       roomed own slots _ s z BuildKsm text room l (ltb room 256) _ refl (λ h.
-      at_entry own slots _ s z BuildKsm text room l n w who _ refl refl refl refl refl h
+      at_entry own slots _ s z BuildKsm text room l n w who _ refl refl refl refl h
       (λ e g. opened own slots n w e room _ g h ∙ ap (λ (v : Text). building.build_ksm v e (request_in text)) (sym (ours own slots n w))))
   performed s BuildRsi who text room n w l z =
       roomed own slots _ s z BuildRsi text room l (ltb room 256) _ refl (λ h.
-      at_entry own slots _ s z BuildRsi text room l n w who _ refl refl refl refl refl h
+      at_entry own slots _ s z BuildRsi text room l n w who _ refl refl refl refl h
       (λ e g. opened own slots n w e room _ g h ∙ ap (λ (v : Text). building.build_rsi v e text) (sym (ours own slots n w))))
   performed s GiveUp who text room n w l z =
       roomed own slots _ s z GiveUp text room l false _ (roomless room) (λ h.
-      at_entry own slots _ s z GiveUp text room l n w who _ refl refl refl refl refl h (λ e g. refl))
+      at_entry own slots _ s z GiveUp text room l n w who _ refl refl refl refl h (λ e g. refl))
   performed s Remove who text room n w l z =
       roomed own slots _ s z Remove text room l false _ (roomless room) (λ h.
-      at_entry own slots _ s z Remove text room l n w who _ refl refl refl refl refl h (λ e g. refl))
+      at_entry own slots _ s z Remove text room l n w who _ refl refl refl refl h (λ e g. refl))
   performed s Ask who text room n w l z =
       roomed own slots _ s z Ask text room l false _ (roomless room) (λ h.
-      at_entry own slots _ s z Ask text room l n w who _ refl refl refl refl refl h (λ e g. refl))
-  performed s (Load top) who text room n w l z = loads own slots s who text top room z l (roomless room)
+      at_entry own slots _ s z Ask text room l n w who _ refl refl refl refl h (λ e g. refl))
+  performed s (Load top) who text room n w l z = loads own slots s who text top room z n l (roomless room)
 
   -- every call
   ends : (s : Sight) (x : Act) (who text : Text) (room : ℕ) → Sees own slots (aim_of x own who text) s
@@ -100,7 +101,7 @@ module _ (own : Text) (slots : List Entry) where
 pub way_ends : (own : Text) (slots : List Entry) (q : Act) (who text : Text) (room : ℕ) (s : Sight)
     → Sees own slots (aim_of q own who text) s
     → ((take own (aim_of q own who text) s q text room).outcome ≡ (over_row own slots (call_of q room who text)).outcome)
-    × (set slots s.at (take own (aim_of q own who text) s q text room).entry ≡ (over_row own slots (call_of q room who text)).table.slots)
+    × (put_in s.slot (take own (aim_of q own who text) s q text room).entry slots ≡ (over_row own slots (call_of q room who text)).table.slots)
 way_ends own slots q who text room s z = ends own slots s q who text room z
 
 -- ---- another room
@@ -117,18 +118,18 @@ same_further Ask a g text room = refl
 same_further (Load top) a g text room = refl
 
 -- a way by its refusal
-abbrev taking : Text → Name → Entry → Act → Text → ℕ → ℕ → Turn
+abbrev taking : Text → Option Name → Entry → Act → Text → ℕ → ℕ → Turn
 taking own id e q text room n = cond (eqb n 0) (turn own id e q text room) (refused e n)
 
 take_by : (own : Text) (a : Aim) (s : Sight) (q : Act) (text : Text) (room : ℕ)
-    → take own a s q text room ≡ taking own a.partner s.entry q text room (refusal a s q text room)
+    → take own a s q text room ≡ taking own a.partner (entry_in s.slot) q text room (refusal a s q text room)
 unfolding take
 take_by own a s q text room = refl
 
 -- with another room asked for only test 6 changes
 pub way_roomed : (own : Text) (a : Aim) (s : Sight) (q : Act) (text : Text) (asks room : ℕ)
     → take own (with_room a asks) s q text room
-    ≡ cond (not s.legal) (refused s.entry 13) (cond (ltb room asks) (refused s.entry 6) (take own (with_room a 0) s q text room))
+    ≡ cond (not s.legal) (refused (entry_in s.slot) 13) (cond (ltb room asks) (refused (entry_in s.slot) 6) (take own (with_room a 0) s q text room))
 way_roomed own a s q text asks room = by_legal s.legal refl
   where
     b : Aim
@@ -136,7 +137,7 @@ way_roomed own a s q text asks room = by_legal s.legal refl
 
     Goal : Bool → Bool → Type 0
     Goal l r = take own b s q text room
-        ≡ cond (not l) (refused s.entry 13) (cond r (refused s.entry 6) (take own (with_room a 0) s q text room))
+        ≡ cond (not l) (refused (entry_in s.slot) 13) (cond r (refused (entry_in s.slot) 6) (take own (with_room a 0) s q text room))
 
     refuses_same : s.legal ≡ true → ltb room asks ≡ false → refusal b s q text room ≡ refusal (with_room a 0) s q text room
     refuses_same l h =
@@ -144,7 +145,7 @@ way_roomed own a s q text asks room = by_legal s.legal refl
         ∙ gives_further (with_room a 0) s q text room l (roomless room)
 
     same_way : s.legal ≡ true → ltb room asks ≡ false → take own b s q text room ≡ take own (with_room a 0) s q text room
-    same_way l h = take_by own b s q text room ∙ ap (taking own a.partner s.entry q text room) (refuses_same l h) ∙ sym (take_by own (with_room a 0) s q text room)
+    same_way l h = take_by own b s q text room ∙ ap (taking own a.partner (entry_in s.slot) q text room) (refuses_same l h) ∙ sym (take_by own (with_room a 0) s q text room)
 
     by_room : s.legal ≡ true → (r : Bool) → ltb room asks ≡ r → Goal true r
     by_room l true h = way_refused own b s q text room 6 (gives_6 b s q text room l h) (λ z. absurd (omega arith))
@@ -152,7 +153,7 @@ way_roomed own a s q text asks room = by_legal s.legal refl
 
     by_legal : (l : Bool) → s.legal ≡ l
         → take own b s q text room
-        ≡ cond (not s.legal) (refused s.entry 13) (cond (ltb room asks) (refused s.entry 6) (take own (with_room a 0) s q text room))
+        ≡ cond (not s.legal) (refused (entry_in s.slot) 13) (cond (ltb room asks) (refused (entry_in s.slot) 6) (take own (with_room a 0) s q text room))
     by_legal true l = subst (λ (x : Bool). Goal x (ltb room asks)) (sym l) (by_room l (ltb room asks) refl)
     by_legal false l =
         subst (λ (x : Bool). Goal x (ltb room asks)) (sym l)

@@ -1,116 +1,80 @@
 // A message read and written anew from its parts.
+use crate::operation::hex;
 use fields::Kd;
-use messages::{Counts, Written};
-use reader::{Esm, Ksm, Message, Rsi, Rsm};
+use messages::{Address, Counts};
+use octets::Span;
+use reader::{Esm, Ksm, Message};
 use writer::{Key, Vector};
 
-fn rsi(reply: &mut [u8], text: &[u8], m: Rsi) -> Written {
-    let head = m.head;
-    messages::write_rsi(
-        reply,
-        octets::part(text, head.rcv),
-        octets::part(text, head.org),
-        m.service,
-    )
-}
-
-fn rsm(reply: &mut [u8], text: &[u8], m: Rsm, key: u64) -> Written {
-    let head = m.head;
-    messages::write_rsm(
-        reply,
-        octets::part(text, head.rcv),
-        octets::part(text, head.org),
-        key,
-    )
-}
-
-// CTP and CTR where there are both.
-fn counts(m: Esm) -> Counts {
-    let ctp = m.ctp;
-    let ctr = m.ctr;
-    if ctp.there {
-        return Counts::Both {
-            ctp: ctp.value,
-            ctr: ctr.value,
-        };
+// A name filled up with blanks, or blanks where there is none.
+fn name(text: &[u8], span: Option<Span>) -> [u8; 16] {
+    let mut name = [b' '; 16];
+    if let Some(span) = span {
+        octets::copy(&mut name, octets::part(text, span));
     }
-    Counts::Without
-}
-
-fn esm(reply: &mut [u8], text: &[u8], m: Esm) -> Written {
-    let head = m.head;
-    let both = counts(m);
-    messages::write_esm(
-        reply,
-        octets::part(text, head.rcv),
-        octets::part(text, head.org),
-        m.erf.value,
-        both,
-    )
+    name
 }
 
 // A KD's key as it stands, with its names.
-fn key_of(text: &[u8], kd: Kd) -> Key {
-    let mut idk1 = [b' '; 16];
-    writer::put_text(&mut idk1, octets::part(text, kd.idk1));
-    let mut idk2 = [b' '; 16];
-    writer::put_text(&mut idk2, octets::part(text, kd.idk2));
+fn key(text: &[u8], kd: Kd) -> Key {
     Key {
         sealed: kd.key,
         p: kd.p,
-        idk1,
-        idk2,
+        idk1: name(text, kd.idk1),
+        idk2: name(text, kd.idk2),
     }
 }
 
-// The IV by its letter.
-fn vector(iv: &[u8]) -> Vector {
-    if iv.len() < 17 {
-        return Vector::Absent;
-    }
-    let value = crate::hex(&iv[1..17]);
-    if iv[0] == b'E' {
-        return Vector::Enciphered(value);
-    }
-    Vector::Plain(value)
+// The IV by its letter; one of fewer than 16 digits is none.
+fn vector(iv: &[u8]) -> Option<Vector> {
+    let value = hex(iv.get(1..17)?);
+    Some(if iv[0] == b'E' {
+        Vector::Enciphered(value)
+    } else {
+        Vector::Plain(value)
+    })
+}
+
+// The digits of a date.
+fn date(edk: &[u8]) -> [u8; 12] {
+    let mut date = [b'0'; 12];
+    octets::copy(&mut date, edk);
+    date
 }
 
 // What a KSM says, as its writer takes it.
-fn said(text: &[u8], m: Ksm) -> messages::Ksm {
-    let date = octets::part(text, m.edk);
-    let mut edk = [b'0'; 12];
-    writer::put_text(&mut edk, date);
+fn said(text: &[u8], m: &Ksm) -> messages::Ksm {
     messages::Ksm {
         nos: m.nos,
-        first: key_of(text, m.first),
-        two: m.two,
-        second: key_of(text, m.second),
-        vector: vector(octets::part(text, m.iv)),
-        dated: date.len() != 0,
-        edk,
+        first: key(text, m.first),
+        second: m.second.map(|kd| key(text, kd)),
+        vector: m.iv.and_then(|iv| vector(octets::part(text, iv))),
+        edk: m.edk.map(|edk| date(octets::part(text, edk))),
         ctp: m.ctp.value,
     }
 }
 
-fn ksm(reply: &mut [u8], text: &[u8], m: Ksm, key: u64) -> Written {
-    let head = m.head;
-    messages::write_ksm(
-        reply,
-        octets::part(text, head.rcv),
-        octets::part(text, head.org),
-        said(text, m),
-        key,
-    )
+// CTP and CTR where there are both.
+fn counts(m: &Esm) -> Option<Counts> {
+    Some(Counts {
+        ctp: m.ctp?.value,
+        ctr: m.ctr?.value,
+    })
 }
 
 // The message of a text into the reply, its MAC under the key: how many bytes.
-pub(crate) fn anew(reply: &mut [u8], text: &[u8], key: u64) -> usize {
-    match reader::read(text) {
-        Message::Rsi(m) => messages::length_of(rsi(reply, text, m)),
-        Message::Ksm(m) => messages::length_of(ksm(reply, text, m, key)),
-        Message::Rsm(m) => messages::length_of(rsm(reply, text, m, key)),
-        Message::Esm(m) => messages::length_of(esm(reply, text, m)),
-        Message::Option(_) => 0,
-        Message::Nothing => 0,
+pub(crate) fn anew(reply: &mut [u8], text: &[u8], mac_key: u64) -> Option<usize> {
+    let message = reader::read(text)?;
+    let head = message.head();
+    let to = Address {
+        rcv: octets::part(text, head.rcv),
+        org: octets::part(text, head.org),
+    };
+    match &message {
+        Message::Rsi(m) => messages::write_rsi(reply, to, m.service),
+        Message::Ksm(m) => messages::write_ksm(reply, to, &said(text, m), mac_key),
+        Message::Rsm(_) => messages::write_rsm(reply, to, mac_key),
+        Message::Esm(m) => messages::write_esm(reply, to, m.erf.value, counts(m)),
+        Message::Option(_) => None,
     }
 }

@@ -1,7 +1,7 @@
 -- Two cards, of MILL and HARBOR, with real keys and texts: each call by computation.
+use Rattle.std.specs.Prelude.{None}
 use mathlib.Core.Path.{◌≡◌, refl}
 use mathlib.Core.List.{[], ◌∷◌}
-use mathlib.Core.Option.{none}
 use Prim.Native.Nat.{ℕ}
 use Rattle.octets.specs.Text.{Text, ascii}
 use Rattle.keying.specs.Keys.{unseal}
@@ -119,7 +119,7 @@ unfolding computes
 mill_builds = refl
 
 pub harbor_takes : run (harbor 1 no_keys) (receive 256 first_ksm)
-    ≡ record { outcome = success answering_rsm (keys none none); table = harbor 2 first_keys }
+    ≡ record { outcome = success answering_rsm (keys None None); table = harbor 2 first_keys }
 unfolding computes
 harbor_takes = refl
 

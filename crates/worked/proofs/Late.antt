@@ -1,10 +1,10 @@
 -- The late error, with real keys and texts: HARBOR has taken MILL's key message and is handed it again and again; the
 -- first ESM reaches MILL last. MILL builds anew and is confirmed, in the keys that HARBOR holds.
+use Rattle.std.specs.Prelude.{None, Some}
 use mathlib.Core.Path.{◌≡◌, refl, sym, ap, ◌∙◌, subst}
 use mathlib.Core.List.Memᴰ
 use mathlib.Core.List.{List, [], ◌∷◌}
 use mathlib.Core.Logic.{⊎_elim}
-use mathlib.Core.Option.{none, some}
 use Prim.Native.Nat.{ℕ, zero, suc}
 use native.Mathlib.Omega.{arith}
 use Rattle.octets.specs.Text.{Text, ascii}
@@ -68,7 +68,7 @@ unfolding computes
 mill_builds_new = refl
 
 harbor_takes_new : run (harbor 2 first_keys) (receive 256 third_ksm)
-    ≡ record { outcome = success new_rsm (keys none none); table = harbor 3 new_keys }
+    ≡ record { outcome = success new_rsm (keys None None); table = harbor 3 new_keys }
 unfolding computes
 harbor_takes_new = refl
 
@@ -78,9 +78,9 @@ unfolding computes
 mill_confirms_new = refl
 
 abbrev the_error : Esm
-the_error = record { ctp = some 2; ctr = some 1; erf = P; edc = none }
+the_error = record { ctp = Some 2; ctr = Some 1; erf = P; edc = None }
 
-esm_reads : read the_esm ≡ some (record { rcv = MILL; org = HARBOR; body = esm the_error })
+esm_reads : read the_esm ≡ Some (record { rcv = MILL; org = HARBOR; body = esm the_error })
 unfolding computes
 esm_reads = refl
 
@@ -150,7 +150,7 @@ abbrev mac_for : Ksm → ℕ
 mac_for m = called_for MILL HARBOR key_name pair m
 
 abbrev Reads : Text → Ksm → Type 0
-Reads t m = read t ≡ some (a_to_b MILL HARBOR key_name pair (ksm m))
+Reads t m = read t ≡ Some (a_to_b MILL HARBOR key_name pair (ksm m))
 
 first_calls : called first_ksm ≡ answer 0x96359AC3
 unfolding computes called_by carried_by carried_in
@@ -194,7 +194,7 @@ distinct t u m n ht hu rt ru e =
 abbrev mill_anew : Entry
 mill_anew = mill_entry 3 confirmed new_keys
 
-pub anew_confirmed : (entry_of HARBOR agreed_anew.a ≡ some mill_anew) × (mill_anew.sending.phase ≡ confirmed)
+pub anew_confirmed : (entry_of HARBOR agreed_anew.a ≡ Some mill_anew) × (mill_anew.sending.phase ≡ confirmed)
 unfolding computes
 anew_confirmed = (refl, refl)
 

@@ -1,9 +1,9 @@
 -- The theorem says something: a run that meets its premises and ends confirmed. And it needs the premise on MACs: a run
 -- that meets all the others ends with A confirmed in keys that B does not hold.
+use Rattle.std.specs.Prelude.{Some}
 use mathlib.Core.Path.{◌≡◌, refl, sym, ap, ◌∙◌, subst}
 use mathlib.Core.List.Memᴰ
 use mathlib.Core.List.{List, [], ◌∷◌, ◌++◌}
-use mathlib.Core.Option.{some}
 use Prim.Native.Nat.{ℕ}
 use native.Mathlib.Omega.{arith}
 use Rattle.octets.specs.Text.{Text}
@@ -121,7 +121,7 @@ agreed_run =
 pub agreed_distinct : Distinct MILL HARBOR key_name pair agreed.from_a
 agreed_distinct t u m n ht hu = λ rt ru e. Memᴰ.eq_of_singleton ht ∙ sym (Memᴰ.eq_of_singleton hu)
 
-pub agreed_confirmed : (entry_of HARBOR agreed.a ≡ some (mill_entry 2 confirmed first_keys))
+pub agreed_confirmed : (entry_of HARBOR agreed.a ≡ Some (mill_entry 2 confirmed first_keys))
     × ((mill_entry 2 confirmed first_keys).sending.phase ≡ confirmed)
 unfolding computes
 agreed_confirmed = (refl, refl)
@@ -150,12 +150,12 @@ misled_run =
     (record { first = omega arith; second = omega arith })
     (at_mill answered (about HARBOR give_up) _ mill_gives_up tt answered_run))
 
-pub misled_confirmed : (entry_of HARBOR misled.a ≡ some (mill_entry 3 confirmed second_keys))
+pub misled_confirmed : (entry_of HARBOR misled.a ≡ Some (mill_entry 3 confirmed second_keys))
     × ((mill_entry 3 confirmed second_keys).sending.phase ≡ confirmed)
 unfolding computes
 misled_confirmed = (refl, refl)
 
-harbor_holds : entry_of MILL misled.b ≡ some (harbor_entry 2 first_keys)
+harbor_holds : entry_of MILL misled.b ≡ Some (harbor_entry 2 first_keys)
 unfolding computes
 harbor_holds = refl
 

@@ -1,18 +1,18 @@
 -- Laws of ERF's letters for their writer: what is written and what is left are the whole.
 use mathlib.Core.Path.{◌≡◌, refl, sym, ap, ◌∙◌}
 use mathlib.Core.Bool.{Bool, true, false, cond}
-use mathlib.Core.List.{[], ◌∷◌, ◌++◌, append_assoc, append-nil}
+use mathlib.Core.List.{[], ◌∷◌, ◌++◌, append_assoc}
 use Prim.Native.Nat.{ℕ, ◌+◌, ◌-◌, ◌/◌, ◌%◌, ◌≤◌, ◌<◌}
 use native.Mathlib.Numerals.{add-one}
 use native.Mathlib.Omega.{arith}
 use lib.Dec.{eqb}
-use lib.ListN.{length, take, drop, get_or, drop_of_length-le}
+use lib.ListN.{length, take, drop, get_or}
 use lib.Seq.{drop-cons}
 use Rattle.octets.specs.Text.{Text}
 use Rattle.octets.proofs.Writing.{length_over}
 use Rattle.csm.specs.Fields.{error_letters, letters_of}
 use Rattle.octets.specs.Wrote.{Wrote}
-use Rattle.octets.proofs.Writing.{wrote_rest, wrote_as, wrote_nothing}
+use Rattle.octets.proofs.Writing.{wrote_rest}
 
 -- a letter that is in, or nothing
 abbrev pub maybe_letter : ℕ → ℕ → Text
@@ -26,16 +26,6 @@ pub record Spelling (letters : ℕ) (l l₁ : Text) (left n i : ℕ) : Type 0 wh
   pub within : i ≤ 9
   pub size : length l₁ ≡ length l
   pub low : n ≤ length l
-
-pub spelling_none : (letters : ℕ) (l : Text) → Spelling letters l l letters 0 0
-spelling_none letters l = record {
-  text = [];
-  laid = wrote_nothing l;
-  rest = refl;
-  within = omega arith;
-  size = refl;
-  low = omega arith;
-}
 
 -- the letter at i, if it is in, and then the others
 next : (i left : ℕ) → i < 9
@@ -67,10 +57,3 @@ spelling_more {letters} {left} {n} {m} {i} {l} {l₁} {e} p h q =
       size = ap length w.text ∙ length_over (p.text ++ x) l;
       low = omega arith;
     }
-
-pub spelling_all : {letters left n i : ℕ} {l l₁ : Text} → Spelling letters l l₁ left n i → 9 ≤ i
-    → Wrote (letters_of error_letters letters) l l₁ n
-spelling_all {letters} {left} {n} {i} {l} {l₁} p h =
-    let e : letters_of (drop i error_letters) left ≡ [] =
-    ap (λ (cs : Text). letters_of cs left) (drop_of_length-le error_letters h) in
-    wrote_as (sym (append-nil p.text) ∙ ap (λ (t : Text). p.text ++ t) (sym e) ∙ p.rest) p.laid

@@ -1,7 +1,6 @@
 // What the fields' writers are made of: digits, letters, services.
-ghost use Rattle.std.specs.Prelude.{◌≡◌, cond, [], ◌∷◌, ◌++◌, ◌≤◌, ◌<◌, ◌/◌, ◌%◌, ◌^◌, min, eqb, length, drop, get_or};
+ghost use Rattle.std.specs.Prelude.{◌≡◌, cond, [], ◌∷◌, ◌++◌, ◌≤◌, ◌<◌, ◌/◌, ◌%◌, ◌^◌, eqb, get_or};
 ghost use Rattle.octets.specs.Text.{blank};
-ghost use Rattle.octets.specs.Part.{bare};
 ghost use Rattle.csm.specs.Fields as fields;
 ghost use Rattle.octets.specs.Wrote.{Wrote};
 
@@ -13,9 +12,10 @@ fn digit(d: u64) -> u8
     ensures { result ≡ fields.digit d }
 {
     if d < 10 {
-        return (48 + d) as u8;
+        b'0' + d as u8
+    } else {
+        b'A' + (d as u8 - 10)
     }
-    (55 + d) as u8
 }
 
 // The hex digit of x that has `place` digits behind it.
@@ -23,34 +23,20 @@ fn digit_at(x: u64, place: usize) -> u8
     requires { place < 16 }
     ensures { result ≡ fields.digit (x / 16 ^ place % 16) }
 {
-    let y = x >> (4 * place);
-    digit(y % 16)
-}
-
-// The smaller of the two.
-fn smaller(a: usize, b: usize) -> usize
-    ensures { result ≡ min a b }
-{
-    if a <= b {
-        return a;
-    }
-    b
+    digit((x >> (4 * place)) % 16)
 }
 
 // The k low hex digits of x, capitals.
+// As octets::put_number does for bytes: a loop over a closure in place of both would be no shorter than the two.
 fn put_hex(rest: &mut [u8], k: usize, x: u64) -> usize
     requires { k ≤ 16 }
     ensures { Wrote (fields.hex_text k x) rest.old rest.new result }
 {
-    let n = smaller(k, rest.len());
-    let mut place = k;
-    let mut i = 0;
-    while i < n {
-        place -= 1;
-        rest[i] = digit_at(x, place);
-        i += 1;
+    let n = k.min(rest.len());
+    for i in 0..n {
+        rest[i] = digit_at(x, k - 1 - i);
     }
-    i
+    n
 }
 
 // Four hex digits and a blank.
@@ -94,35 +80,40 @@ fn put_letter(rest: &mut [u8], left: u64, letter: u8) -> usize
     ensures { Wrote (cond (eqb (left % 2) 1) (letter ∷ []) []) rest.old rest.new result }
 {
     if left % 2 == 1 {
-        return octets::fill(rest, 1, letter);
+        octets::fill(rest, 1, letter)
+    } else {
+        0
     }
-    0
 }
 
 // The letters whose bits are set, in alphabetical order.
 pub(crate) fn put_letters(rest: &mut [u8], letters: u64) -> usize
     ensures { Wrote (fields.letters_of fields.error_letters letters) rest.old rest.new result }
 {
-    let alphabet = b"ABFIKMOPU";
     let mut left = letters;
     let mut n = 0;
-    let mut i = 0;
-    while i < 9 {
-        n = n + put_letter(&mut rest[n..], left, alphabet[i]);
-        left = left / 2;
-        i += 1;
+    for letter in b"ABFIKMOPU" {
+        n += put_letter(&mut rest[n..], left, *letter);
+        left /= 2;
     }
     n
 }
 
-// What stands in a table from `at` on before the next blank.
-fn put_bare(rest: &mut [u8], table: &[u8], at: usize) -> usize
-    requires { at ≤ length table.now }
-    ensures { Wrote (bare (drop at table.now)) rest.old rest.new result }
-{
-    let part = &table[at..];
-    put_text(rest, octets::bare(part))
-}
+// The services, in the order of their places.
+static SERVICES: [&[u8]; 12] = [
+    b"",
+    b"IV",
+    b"KD",
+    b"KD.IV",
+    b"KK",
+    b"KK.IV",
+    b"KK.KD",
+    b"KK.KD.IV",
+    b"*KK",
+    b"*KK.IV",
+    b"*KK.KD",
+    b"*KK.KD.IV",
+];
 
 // A service's contents, by its place among the twelve.
 pub(crate) fn put_service(rest: &mut [u8], service: u64) -> usize
@@ -131,10 +122,5 @@ pub(crate) fn put_service(rest: &mut [u8], service: u64) -> usize
     if 12 <= service {
         return 0;
     }
-    let at = 10 * service as usize;
-    put_bare(
-        rest,
-        b"          IV        KD        KD.IV     KK        KK.IV     KK.KD     KK.KD.IV  *KK       *KK.IV    *KK.KD    *KK.KD.IV ",
-        at,
-    )
+    put_text(rest, SERVICES[service as usize])
 }

@@ -10,10 +10,7 @@ use crate::{Key, digits, put_text};
 fn put_mark(rest: &mut [u8], p: bool) -> usize
     ensures { Wrote (fields.sub (fields.mark p)) rest.old rest.new result }
 {
-    if p {
-        return put_text(rest, b".P");
-    }
-    put_text(rest, b".")
+    put_text(rest, if p { b".P" } else { b"." })
 }
 
 // A name's subfield: its dot and the name.
@@ -36,32 +33,24 @@ fn put_two(rest: &mut [u8], p: bool, idk1: &[u8]) -> usize
 fn put_subfields(rest: &mut [u8], p: bool, idk1: &[u8], idk2: &[u8]) -> usize
     ensures { Wrote (fields.subfields p (fields.nonempty idk1.now) (fields.nonempty idk2.now)) rest.old rest.new result }
 {
-    if 0 < idk2.len() {
+    if !idk2.is_empty() {
         let a = put_two(rest, p, idk1);
-        return a + put_name(&mut rest[a..], idk2);
+        a + put_name(&mut rest[a..], idk2)
+    } else if !idk1.is_empty() {
+        put_two(rest, p, idk1)
+    } else if p {
+        put_mark(rest, p)
+    } else {
+        0
     }
-    if 0 < idk1.len() {
-        return put_two(rest, p, idk1);
-    }
-    if p {
-        return put_mark(rest, p);
-    }
-    0
 }
 
 // KD: 16 hex digits and the subfields.
-pub(crate) fn put_kd(rest: &mut [u8], key: Key) -> usize
-    ensures { Wrote ((fields.field fields.KD).print (contents.kd_of key)) rest.old rest.new result }
+pub(crate) fn put_kd(rest: &mut [u8], key: &Key) -> usize
+    ensures { Wrote ((fields.field fields.KD).print (contents.kd_of key.now)) rest.old rest.new result }
 {
-    let idk1 = key.idk1;
-    let idk2 = key.idk2;
+    let (idk1, idk2) = (octets::bare(&key.idk1), octets::bare(&key.idk2));
     let a = digits::put_block(rest, b"KD/", key.sealed);
-    let b = a
-        + put_subfields(
-            &mut rest[a..],
-            key.p,
-            octets::bare(&idk1),
-            octets::bare(&idk2),
-        );
+    let b = a + put_subfields(&mut rest[a..], key.p, idk1, idk2);
     b + put_text(&mut rest[b..], b" ")
 }

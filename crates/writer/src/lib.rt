@@ -1,8 +1,8 @@
 // Field writers: each is lent the reply buffer's unwritten rest, lays its field over the front of it as far as there is
-// room, and returns how many bytes it wrote.
+// room, and returns how many bytes it wrote: a rule of the project, so that nothing is copied twice.
 #![tactic(auto)]
 
-ghost use Rattle.std.specs.Prelude.{[], ◌∷◌, ◌++◌, ◌%◌};
+ghost use Rattle.std.specs.Prelude.{[], ◌∷◌, ◌++◌, ◌%◌, option_map, option_copied};
 ghost use Rattle.octets.specs.Text.{blank};
 ghost use Rattle.csm.specs.Format as formats;
 ghost use Rattle.csm.specs.Fields as fields;
@@ -23,10 +23,9 @@ pub struct Key {
     pub idk2: [u8; 16],
 }
 
-// The IV of a KSM: none, its value, or its enciphered value.
+// The IV of a KSM: its value, or its enciphered value.
 #[derive(Clone, Copy)]
 pub enum Vector {
-    Absent,
     Plain(u64),
     Enciphered(u64),
 }
@@ -85,43 +84,40 @@ pub fn put_svr(rest: &mut [u8], service: u64) -> usize
 }
 
 // IV, if there is one: P and its value, or E and its enciphered value.
-pub fn put_iv(rest: &mut [u8], vector: Vector) -> usize
-    ensures { Wrote (formats.maybe_print (fields.field fields.IV) (contents.iv_of vector)) rest.old rest.new result }
+pub fn put_iv(rest: &mut [u8], vector: Option<Vector>) -> usize
+    ensures { Wrote (formats.maybe_print (fields.field fields.IV) (option_map contents.iv_of vector)) rest.old rest.new result }
 {
     match vector {
-        Vector::Absent => 0,
-        Vector::Plain(v) => digits::put_vector(rest, b"IV/P", v),
-        Vector::Enciphered(v) => digits::put_vector(rest, b"IV/E", v),
+        None => 0,
+        Some(Vector::Plain(v)) => digits::put_vector(rest, b"IV/P", v),
+        Some(Vector::Enciphered(v)) => digits::put_vector(rest, b"IV/E", v),
     }
 }
 
 // EDK, if there is one.
-pub fn put_edk(rest: &mut [u8], dated: bool, edk: &[u8]) -> usize
-    ensures { Wrote (formats.maybe_print (fields.field fields.EDK) (contents.there dated edk.now)) rest.old rest.new result }
+pub fn put_edk(rest: &mut [u8], edk: Option<&[u8]>) -> usize
+    ensures { Wrote (formats.maybe_print (fields.field fields.EDK) (option_copied edk.entry)) rest.old rest.new result }
 {
-    if dated {
-        return put_field(rest, b"EDK/", edk);
+    match edk {
+        None => 0,
+        Some(date) => put_field(rest, b"EDK/", date),
     }
-    0
 }
 
 // NOS, if it is there: empty contents.
 pub fn put_nos(rest: &mut [u8], notarized: bool) -> usize
     ensures { Wrote (formats.maybe_print (fields.field fields.NOS) (message.flagged notarized)) rest.old rest.new result }
 {
-    if notarized {
-        return put_text(rest, b"NOS/ ");
-    }
-    0
+    put_text(rest, if notarized { b"NOS/ " } else { b"" })
 }
 
 // One KD or two.
-pub fn put_keys(rest: &mut [u8], first: Key, two: bool, second: Key) -> usize
-    ensures { Wrote (contents.keys_text first two second) rest.old rest.new result }
+pub fn put_keys(rest: &mut [u8], first: &Key, second: Option<&Key>) -> usize
+    ensures { Wrote (contents.keys_text first.now (option_copied second.entry)) rest.old rest.new result }
 {
     let a = kd::put_kd(rest, first);
-    if two {
-        return a + kd::put_kd(&mut rest[a..], second);
+    match second {
+        None => a,
+        Some(key) => a + kd::put_kd(&mut rest[a..], key),
     }
-    a
 }

@@ -8,4 +8,4 @@ pub returns : goal.returns
 unfolding call_of
 returns c =
     let a = c.args in
-    called BuildKsm _ a.partner.now _ _ _ _ _ tt c.change.ensures
+    called BuildKsm _ a.partner.now _ _ _ _ c.report_of.ensures _ _ tt c.change.ensures

@@ -1,26 +1,35 @@
--- `card::change` meets its contract: a refusal before the turn, or the entry of the turn put back. Assumes nothing.
-use mathlib.Core.Path.{ap, ◌∙◌}
+-- `card::change` meets its contract: a refusal, or the entry of the turn put back. Assumes nothing.
+use Rattle.std.proofs.Common.{◌≡◌, refl, sym, ap, ◌∙◌, subst, arith, Err}
+use Rattle.std.specs.Prelude.{Result}
+use Rattle.std.proofs.lemmas.Grind.{common_steps}
 use Rattle.octets.specs.Part.{bare}
-use Rattle.card.proofs.Ends.{changed_kept, changed_went}
+use Rattle.calls.specs.declared.Refusal.{Refusal}
+use Rattle.outcome.specs.declared.Given.{Given}
+use Rattle.outcome.specs.Report.{report_of}
+use Rattle.card.specs.Ways.{Changed}
+use Rattle.card.proofs.Ends.{changed_kept, changed_refused, changed_went}
 use Rattle.card.proofs.change.Goals as goal
 
-pub returns-then-found-ne0 : goal.returns-then-found-ne0
-returns-then-found-ne0 c =
-    let found = c in
-    let aimed = found in
-    let a = aimed.args in
-    changed_kept a.act a.image.now a.who.now a.text.now a.reply.now _ aimed.aim-aim.ensures _
-    found.find-found.ensures c.if-found-ne0.true _ c.refusal.ensures
+pub returns-in_err-slot : goal.returns-in_err-slot
+returns-in_err-slot c =
+    let a = c.args in
+    let r : c.from_residual.result ≡ Err c.in_err-slot.field-0.0 = grind (arith, common_steps) in
+    subst (λ (x : Result Given Refusal). Changed a.act a.image.now a.who.now a.text.now a.reply.now (report_of x) a.image.now a.reply.now) (sym r)
+    (changed_kept a.act a.image.now a.who.now a.text.now a.reply.now _ c.aim-aim.ensures _ c.find.ensures _ c.in_err-slot.was)
+
+pub returns-in_err-turned : goal.returns-in_err-turned
+returns-in_err-turned c =
+    let a = c.args in
+    let own = c.bare-own.ensures ∙ ap bare c.own_identity.ensures in
+    let r : c.from_residual-in_err-turned.result ≡ Err c.in_err-turned.field-0.0 = grind (arith, common_steps) in
+    subst (λ (x : Result Given Refusal). Changed a.act a.image.now a.who.now a.text.now a.reply.now (report_of x) a.image.now c.turn.new.reply) (sym r)
+    (changed_refused a.act a.image.now a.who.now a.text.now a.reply.now _ c.aim-aim.ensures _ c.find.ensures
+    _ c.in_ok-slot.was _ own _ refl _ c.slot-entry.ensures _ _ c.turn.ensures.value c.turn.ensures.reply_after _ c.in_err-turned.was)
 
 pub returns : goal.returns
 returns c =
-    let turned = c in
-    let seen = turned in
-    let own = seen.bare-own.ensures ∙ ap bare seen.own_identity.ensures in
-    let went = seen in
-    let found = went in
-    let aimed = found in
-    let a = aimed.args in
-    changed_went a.act a.image.now a.who.now a.text.now a.reply.now _ aimed.aim-aim.ensures _
-    found.find-found.ensures went.if-found-ne0.false _ own _ seen.slot-entry.ensures _ _ _ (turned.turn-turned.ensures.value, turned.turn-turned.ensures.reply_after)
-    c.put_slot.ensures
+    let a = c.args in
+    let own = c.bare-own.ensures ∙ ap bare c.own_identity.ensures in
+    changed_went a.act a.image.now a.who.now a.text.now a.reply.now _ c.aim-aim.ensures _ c.find.ensures
+    _ c.in_ok-slot.was _ own _ refl _ c.slot-entry.ensures _ _ c.turn.ensures.value c.turn.ensures.reply_after _ c.in_ok-turned.was
+    _ c.put_slot.ensures

@@ -1,41 +1,28 @@
 -- `card::find` meets its contract: nothing is seen of what is no legal image. Assumes nothing.
-use mathlib.Core.Path.{◌≡◌, sym, ap, ◌∙◌}
-use mathlib.Core.Bool.{Bool, true, cond, not}
-use Prim.Native.Nat.{ℕ}
-use lib.Dec.{ltb}
-use Rattle.octets.specs.First.{first}
-use Rattle.image.specs.Places.{free_slot}
-use Rattle.sight.specs.declared.Sight.{Sight}
-use Rattle.sight.specs.declared.Glance.{Glance}
-use Rattle.turn.specs.Way.{order, glance, refusal}
-use Rattle.card.specs.Ways.{blind, sighted, seen, sought}
+use Rattle.std.proofs.Common.{◌≡◌, sym, ◌∙◌, subst, ℕ, arith, Err}
+use Rattle.std.specs.Prelude.{Result}
+use Rattle.std.proofs.lemmas.Grind.{common_steps}
+use Rattle.calls.specs.declared.Refusal.{Refusal}
+use Rattle.card.specs.Ways.{Finds}
+use Rattle.card.proofs.Lookups.{finds_nothing, finds_refusal, finds_slot}
 use Rattle.card.proofs.find.Goals as goal
 
 pub returns-then-not-legal : goal.returns-then-not-legal
-unfolding refusal seen
 returns-then-not-legal c =
-    let judged = c in
-    let a = judged.args in
-    let s : seen a.aim a.image.now ≡ blind =
-    ap (λ (b : Bool). cond (not b) blind (sighted a.aim a.image.now)) (sym judged.legal.ensures)
-    ∙ ap (λ (b : Bool). cond (not b) blind (sighted a.aim a.image.now)) judged.if-not-legal.true in
-    let g = c.nothing.ensures ∙ ap glance (sym s) in
-    let answer = c.refusal.ensures ∙ ap (λ (g : Glance). first (order a.aim g a.act a.text.now a.room)) g in
-    λ j. record { answer = answer j; slot = (sym s j).at }
+    let a = c.args in
+    finds_nothing a.aim.now a.image.now a.act a.text.now a.room (sym c.legal.ensures ∙ c.if-not-legal.true)
+
+pub returns-in_err-refusal : goal.returns-in_err-refusal
+returns-in_err-refusal c =
+    let a = c.args in
+    let r : c.from_residual.result ≡ Err c.in_err-refusal.field-0.0 = grind (arith, common_steps) in
+    subst (λ (x : Result ℕ Refusal). Finds a.aim.now a.image.now a.act a.text.now a.room x) (sym r)
+    (finds_refusal a.aim.now a.image.now a.act a.text.now a.room (sym c.legal.ensures ∙ c.if-not-legal.false) _ _
+    c.theirs-theirs.ensures c.sought-slot.ensures _ _ c.is_some.ensures c.is_some-2.ensures _ c.in_err-refusal.ensures)
 
 pub returns : goal.returns
-unfolding refusal seen sought
 returns c =
-    let partner = c in
-    let judged = partner in
-    let a = judged.args in
-    let s : seen a.aim a.image.now ≡ sighted a.aim a.image.now =
-    ap (λ (b : Bool). cond (not b) blind (sighted a.aim a.image.now)) (sym judged.legal.ensures)
-    ∙ ap (λ (b : Bool). cond (not b) blind (sighted a.aim a.image.now)) judged.if-not-legal.false in
-    let t = partner.theirs-theirs.ensures in
-    let k = c.sought-slot.ensures ∙ ap (λ (n : ℕ). cond a.aim.vacant (free_slot a.image.now) n) t in
-    let g : ◌≡◌ {A = Glance} _ (glance (sighted a.aim a.image.now)) =
-    λ j. record { legal = true; taken = ltb (t j) 64; there = ltb (k j) 64 } in
-    let answer = c.refusal-2.ensures
-    ∙ ap (λ (g : Glance). first (order a.aim g a.act a.text.now a.room)) (g ∙ ap glance (sym s)) in
-    λ j. record { answer = answer j; slot = (k ∙ ap (λ (s : Sight). s.at) (sym s)) j }
+    let a = c.args in
+    subst (λ (x : Result ℕ Refusal). Finds a.aim.now a.image.now a.act a.text.now a.room x) (sym c.ok_or.ensures.value)
+    (finds_slot a.aim.now a.image.now a.act a.text.now a.room (sym c.legal.ensures ∙ c.if-not-legal.false) _ _
+    c.theirs-theirs.ensures c.sought-slot.ensures _ _ c.is_some.ensures c.is_some-2.ensures c.in_ok-refusal.ensures)

@@ -8,5 +8,5 @@ use Rattle.card.proofs.give_up.Goals as goal
 pub returns : goal.returns
 unfolding call_of
 returns c =
-    let k = called GiveUp _ _ [] _ _ _ _ tt c.change.ensures in
+    let k = called GiveUp _ _ [] _ _ _ c.report_of.ensures _ _ tt c.change.ensures in
     record { told = k.told; stored = k.stored }

@@ -7,4 +7,4 @@ use Rattle.card.proofs.receive.Goals as goal
 
 pub returns : goal.returns
 unfolding call_of
-returns c = called Receive _ [] _ _ _ _ _ tt c.change.ensures
+returns c = called Receive _ [] _ _ _ _ c.report_of.ensures _ _ tt c.change.ensures

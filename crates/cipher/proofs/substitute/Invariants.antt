@@ -1,6 +1,6 @@
 -- The bits so far and what the boxes from i on give are the whole; i boxes give 4 i bits.
 use mathlib.Core.Path.{◌≡◌}
-use Prim.Native.Nat.{◌-◌, ◌*◌, ◌^◌, ◌≤◌, ◌<◌}
+use Prim.Native.Nat.{◌*◌, ◌^◌, ◌<◌}
 use lib.ListN.{drop}
 use Rattle.dea.specs.Tables.{boxes as selections}
 use Rattle.dea.specs.Dea as dea
@@ -8,7 +8,4 @@ use Rattle.cipher.proofs.substitute.Given as goal
 
 abbrev pub invariant-loop-i : goal.invariant-loop-i
 invariant-loop-i l =
-    (l.i ≤ 8) × (l.bits < 2 ^ (4 * l.i)) × (dea.substitute l.b l.bits (drop l.i selections) ≡ dea.substitute l.b 0 selections)
-
-abbrev pub decreases-loop-i : goal.decreases-loop-i
-decreases-loop-i l = 8 - l.i
+    (l.bits < 2 ^ (4 * l.i)) × (dea.substitute l.b l.bits (drop l.i selections) ≡ dea.substitute l.b 0 selections)

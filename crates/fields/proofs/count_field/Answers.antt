@@ -1,10 +1,9 @@
--- `fields::count_field` meets its contract: what is read of it is what is read of its contents. Assumes nothing.
+-- A count is read of the contents.
+use Rattle.std.proofs.Common.{rules}
 use Rattle.csm.specs.Fields.{count}
-use Rattle.fields.proofs.PieceLaws.{number_read}
+use Rattle.fields.specs.Seen.{as_number}
+use Rattle.fields.proofs.PieceLaws.{read_as}
 use Rattle.fields.proofs.count_field.Goals as goal
 
 pub returns : goal.returns
-returns c =
-    let a = c.args in
-    number_read count a.tag.now a.text.now a.at c.contents-place.ensures
-    c.part.ensures c.count.ensures c.placed.ensures
+returns c = read_as count c.args.tag.now as_number _ _ c.args.text.now c.args.at _ c.read_field.ensures (λ p o g. search rules)

@@ -1,10 +1,9 @@
--- `fields::letters_field` meets its contract: what is read of it is what is read of its contents. Assumes nothing.
+-- Letters are read of the contents.
+use Rattle.std.proofs.Common.{rules}
 use Rattle.csm.specs.Fields.{erf, tag, ERF}
-use Rattle.fields.proofs.PieceLaws.{number_read}
+use Rattle.fields.specs.Seen.{as_number}
+use Rattle.fields.proofs.PieceLaws.{read_as}
 use Rattle.fields.proofs.letters_field.Goals as goal
 
 pub returns : goal.returns
-returns c =
-    let a = c.args in
-    number_read erf (tag ERF) a.text.now a.at c.contents-place.ensures
-    c.part.ensures c.letters.ensures c.placed.ensures
+returns c = read_as erf (tag ERF) as_number _ _ c.args.text.now c.args.at _ c.read_field.ensures (λ p o g. search rules)

@@ -1,10 +1,9 @@
--- `fields::service_field` meets its contract: what is read of it is what is read of its contents. Assumes nothing.
+-- A service is read of the contents.
+use Rattle.std.proofs.Common.{rules}
 use Rattle.csm.specs.Fields.{svr, tag, SVR}
-use Rattle.fields.proofs.PieceLaws.{number_read}
+use Rattle.fields.specs.Seen.{as_number}
+use Rattle.fields.proofs.PieceLaws.{read_as}
 use Rattle.fields.proofs.service_field.Goals as goal
 
 pub returns : goal.returns
-returns c =
-    let a = c.args in
-    number_read svr (tag SVR) a.text.now a.at c.contents-place.ensures
-    c.part.ensures c.service.ensures c.placed.ensures
+returns c = read_as svr (tag SVR) as_number _ _ c.args.text.now c.args.at _ c.read_field.ensures (λ p o g. search rules)

@@ -6,8 +6,7 @@ use Rattle.image.specs.Places.{seek_free}
 use Rattle.image.proofs.free_slot.Given as goal
 
 abbrev pub invariant-loop-slot : goal.invariant-loop-slot
-invariant-loop-slot l =
-    (l.slot ≤ 64) × ((l.at ≤ front_size + partner_size * l.slot) × (seek_free 64 0 front_size l.image ≡ seek_free (64 - l.slot) l.slot l.at l.image))
-
-abbrev pub decreases-loop-slot : goal.decreases-loop-slot
-decreases-loop-slot l = 64 - l.slot
+invariant-loop-slot l = record {
+  near : l.at ≤ front_size + partner_size * l.slot;
+  so : seek_free 64 0 front_size l.image ≡ seek_free (64 - l.slot) l.slot l.at l.image;
+}

@@ -7,8 +7,7 @@ use Rattle.image.proofs.Passes.{records_legal}
 use Rattle.image.proofs.legal.Given as goal
 
 abbrev pub invariant-loop-left : goal.invariant-loop-left
-invariant-loop-left l =
-    (l.left ≤ 64) × ((l.at + partner_size * l.left ≤ largest) × (found (decode l.image) ≡ records_legal l.left l.at l.image))
-
-abbrev pub decreases-loop-left : goal.decreases-loop-left
-decreases-loop-left l = l.left
+invariant-loop-left l = record {
+  near : l.at + partner_size * l.left ≤ largest;
+  so : found (decode l.image) ≡ records_legal l.left l.at l.image;
+}

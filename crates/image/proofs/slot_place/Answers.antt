@@ -1,38 +1,38 @@
 -- `image::slot_place` meets its contract: the way from here on is the whole way.
-use borrow.Author.Rules.{rules}
-use mathlib.Core.Path.{◌≡◌, refl, sym, ap, ◌∙◌}
+use mathlib.Core.Path.{◌≡◌, sym, ap, ◌∙◌}
 use Prim.Native.Nat.{ℕ, ◌+◌, ◌-◌}
+use native.Mathlib.Nat.{sub-zero}
 use native.Mathlib.Omega.{arith}
-use lib.ListN.{get_or}
 use Rattle.octets.specs.Text.{Text}
-use Rattle.image.specs.Image.{record_length}
+use Rattle.image.specs.Image.{front_size}
 use Rattle.image.specs.Places.{past, slot_place}
-use Rattle.image.proofs.Steps.{length_small, past_one, past_none}
+use Rattle.image.proofs.Steps.{past_one, past_none}
 use Rattle.image.proofs.slot_place.Goals as goal
 
-pub loop-left-init : goal.loop-left-init
-loop-left-init c = (search rules, (search rules, refl))
+pub loop-init : goal.loop-init
+loop-init c =
+    let a = c.args in
+    record { near = omega arith; so = ap (λ (n : ℕ). past n front_size a.image.now) (sym (sub-zero a.slot)) }
 
-pub overflow_add-at : goal.overflow_add-at
-overflow_add-at c = omega (arith, c.record_length-at.ensures, length_small c.byte_at.result)
-
-pub loop-left-preserved : goal.loop-left-preserved
-loop-left-preserved c =
-    let at : ℕ = c.loop-left.at in
-    let left : ℕ = c.loop-left.left in
+pub loop-preserved : goal.loop-preserved
+loop-preserved c =
+    let i = c.loop.invariant in
+    let k : ℕ = c.loop.counter in
+    let slot : ℕ = c.args.slot in
     let im : Text = c.args.image.now in
-    let m : c.record_length-at.result ≡ record_length (get_or im at 0) =
-    c.record_length-at.ensures ∙ ap record_length c.byte_at.ensures in
-    let small = length_small (get_or im at 0) in
-    let so =
-    c.loop-left.invariant.1.1 ∙ past_one left at im (omega arith)
-    ∙ ap (λ (k : ℕ). past (left - 1) (at + k) im) (sym m) in
-    (search rules, (omega arith, so))
+    let next = c.behind-at.ensures in
+    let less : slot - k - 1 ≡ slot - (k + 1) = omega arith in
+    record {
+      near = omega arith;
+      so = i.so ∙ past_one (slot - k) c.loop.at im (omega arith)
+          ∙ λ j. past (less j) (sym next.value j) im;
+    }
 
 pub returns : goal.returns
 unfolding slot_place
 returns c =
-    let at : ℕ = c.loop-left.at in
-    let left : ℕ = c.loop-left.left in
-    let im : Text = c.args.image.now in
-    sym (c.loop-left.invariant.1.1 ∙ past_none left at im (omega arith))
+    let a = c.args in
+    record {
+      value = sym (c.loop.invariant.so ∙ past_none (a.slot - c.loop.counter) c.loop.at a.image.now (omega arith));
+      upper_bound = omega arith;
+    }

@@ -11,11 +11,11 @@ returns-then-out-lt-SMALLEST c =
     let a = c.args in
     let n = started_size a.own (search rules) in
     let g = given_no_room (encode (started a.own)) a.out.now (omega arith) in
-    record { out_after = g.buffer; value = g.size }
+    record { out_after = g.out_after; value = g.value }
 
 pub returns : goal.returns
 returns c =
     let a = c.args in
     let n = started_size a.own (search rules) in
     let g = given_wrote (omega arith) c.put_started.ensures in
-    record { out_after = g.buffer; value = g.size }
+    record { out_after = g.out_after; value = g.value }

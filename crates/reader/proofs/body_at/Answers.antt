@@ -1,27 +1,24 @@
--- `reader::body_at` meets its contract: each class by its own law. Assumes nothing.
-use mathlib.Core.Path.{sym, ◌∙◌}
-use Rattle.reader.specs.Stages.{body}
-use Rattle.reader.proofs.BodyLaws.{rsm_known, esm_known, dsm_rest, ers_rest, rfs_rest, rtr_rest}
+-- An option, or the class's own fields.
+use Rattle.std.proofs.Common.{sym, ◌∙◌}
+use Rattle.reader.proofs.BodyLaws.{body_option, body_known}
 use Rattle.reader.proofs.body_at.Goals as goal
 
+pub returns-then-is_option : goal.returns-then-is_option
+returns-then-is_option c =
+    c.rest_at.ensures ∙ sym (body_option c.args.head c.args.at _ c.args.class (sym c.is_option.ensures ∙ c.if-is_option.true))
+
+pub returns-in-Rsi : goal.returns-in-Rsi
+returns-in-Rsi c =
+    rw (body_known c.args.head c.args.at _ c.args.class (sym c.is_option.ensures ∙ c.if-is_option.false), c.in-Rsi.is) c.rsi_at.ensures
+
+pub returns-in-Ksm : goal.returns-in-Ksm
+returns-in-Ksm c =
+    rw (body_known c.args.head c.args.at _ c.args.class (sym c.is_option.ensures ∙ c.if-is_option.false), c.in-Ksm.is) c.ksm_at.ensures
+
 pub returns-in-Rsm : goal.returns-in-Rsm
-returns-in-Rsm c = rw c.in-Rsm.is (c.rsm_at.ensures ∙ sym (rsm_known _ _ _))
+returns-in-Rsm c =
+    rw (body_known c.args.head c.args.at _ c.args.class (sym c.is_option.ensures ∙ c.if-is_option.false), c.in-Rsm.is) c.rsm_at.ensures
 
 pub returns-in-Esm : goal.returns-in-Esm
-returns-in-Esm c = rw c.in-Esm.is (c.esm_at.ensures ∙ sym (esm_known _ _ _))
-
-pub returns-in-Dsm : goal.returns-in-Dsm
-returns-in-Dsm c = rw c.in-Dsm.is (c.rest_at.ensures ∙ sym (dsm_rest _ _ _))
-
-pub returns-in-Ers : goal.returns-in-Ers
-returns-in-Ers c = rw c.in-Ers.is (c.rest_at-in-Ers.ensures ∙ sym (ers_rest _ _ _))
-
-pub returns-in-Rfs : goal.returns-in-Rfs
-returns-in-Rfs c = rw c.in-Rfs.is (c.rest_at-in-Rfs.ensures ∙ sym (rfs_rest _ _ _))
-
-pub returns-in-Rtr : goal.returns-in-Rtr
-returns-in-Rtr c = rw c.in-Rtr.is (c.rest_at-in-Rtr.ensures ∙ sym (rtr_rest _ _ _))
-
-pub returns-in-Nothing : goal.returns-in-Nothing
-unfolding body
-returns-in-Nothing c = rw c.in-Nothing.is
+returns-in-Esm c =
+    rw (body_known c.args.head c.args.at _ c.args.class (sym c.is_option.ensures ∙ c.if-is_option.false), c.in-Esm.is) c.esm_at.ensures

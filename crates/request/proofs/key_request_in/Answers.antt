@@ -1,5 +1,5 @@
 -- `request::key_request_in` meets its contract, part by part. Assumes nothing.
-use mathlib.Core.Path.{ap, ◌∙◌}
+use mathlib.Core.Path.{◌≡◌, ap, ◌∙◌}
 use Prim.Native.Nat.{◌+◌, ◌^◌, ◌%◌}
 use native.Mathlib.Omega.{arith}
 use Rattle.octets.specs.Text.{Text}
@@ -13,16 +13,16 @@ use Rattle.request.proofs.key_request_in.Goals as goal
 
 pub returns : goal.returns
 returns c =
-    let start = c in
-    let s = start.args.s.now in
-    let n = start.args.at in
-    let h = start.requires in
-    let o = octets_lent s c.shared_slice_known-1.given in
+    let s = c.args.s.now in
+    let n = c.args.at in
+    let o = octets_lent s c.type_inv.s in
     let k = c.number.ensures
     ∙ ap (λ (t : Text). number t % 2 ^ 64) (part_cut 8 n (n + 8) s (omega arith) (omega arith))
     ∙ part_fits 8 n s o (omega arith) in
     let f = part_byte (n + 8) s (omega arith) in
-    let m = c.name_of.ensures
-    ∙ ap name_of (part_cut 16 (n + 8 + 1) (n + 8 + 1 + 16) s (omega arith) (omega arith))
-    ∙ name_whole (part_or_zeros 16 (n + 8 + 1) s) (length_part 16 (n + 8 + 1) s) in
+    let behind : n + 9 ≡ n + 8 + 1 = omega arith in
+    let m : c.name_of.result ≡ record { bytes = part_or_zeros 16 (n + 8 + 1) s } = c.name_of.ensures
+    ∙ ap name_of (part_cut 16 (n + 9) (n + 25) s (omega arith) (omega arith))
+    ∙ name_whole (part_or_zeros 16 (n + 9) s) (length_part 16 (n + 9) s)
+    ∙ λ i. record { bytes = part_or_zeros 16 (behind i) s } in
     λ i. record { key = k i; flags = f i; name = m i }

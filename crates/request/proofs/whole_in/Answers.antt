@@ -12,18 +12,15 @@ use Rattle.request.proofs.whole_in.Goals as goal
 pub returns : goal.returns
 unfolding whole_in
 returns c =
-    let keys = c in
-    let start = keys in
-    let s = start.args.s.now in
-    let h = start.requires in
-    let o = octets_lent s keys.shared_slice_known-1.given in
+    let s = c.args.s.now in
+    let o = octets_lent s c.type_inv.s in
     let v = c.number.ensures
     ∙ ap (λ (t : Text). number t % 2 ^ 64) (part_cut 8 52 60 s (omega arith) (omega arith))
     ∙ part_fits 8 52 s o (omega arith) in
     λ i. record {
       count = part_byte 0 s (omega arith) i;
-      first = keys.key_request_in.ensures i;
-      second = keys.key_request_in-2.ensures i;
+      first = c.key_request_in.ensures i;
+      second = c.key_request_in-2.ensures i;
       kind = part_byte 51 s (omega arith) i;
       iv = v i;
       dated = part_byte 60 s (omega arith) i;

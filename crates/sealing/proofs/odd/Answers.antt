@@ -1,29 +1,15 @@
--- The bytes that are left decide what all eight decide.
-use mathlib.Core.Path.{refl, sym, ◌∙◌}
-use native.Mathlib.Omega.{arith}
-use Rattle.keying.specs.Parity.{odd}
-use Rattle.sealing.proofs.Ones.{none_left, even_here, odd_here}
+-- Byte by byte.
+use Rattle.std.proofs.Common.{rules, tests, ap, ◌%◌, ◌==◌, ◌∙◌}
+use Rattle.std.specs.Prelude.{count_ones}
+use Rattle.std.specs.List.{list_all}
+use Rattle.std.proofs.lemmas.Iterator.{YieldsList-from_slice}
+use Rattle.std.proofs.lemmas.Iterator.Search.{all_from_yields_List}
+use Rattle.sealing.proofs.Ones.{odd_bytes}
 use Rattle.sealing.proofs.odd.Goals as goal
 
-pub loop-i-init : goal.loop-i-init
-unfolding odd
-loop-i-init c = (omega arith, refl)
-
-pub returns-then-rest-eq0 : goal.returns-then-rest-eq0
-returns-then-rest-eq0 c =
-    let l = c.loop-i in
-    sym (l.invariant.1 ∙ even_here l.i l.rest (omega arith) c.if-rest-eq0.true)
-
-pub overflow_add-i : goal.overflow_add-i
-overflow_add-i c = omega arith
-
-pub loop-i-smaller : goal.loop-i-smaller
-loop-i-smaller c = omega arith
-
-pub loop-i-preserved : goal.loop-i-preserved
-loop-i-preserved c =
-    let l = c.loop-i in
-    (omega arith, l.invariant.1 ∙ odd_here l.i l.rest (omega arith) c.if-rest-eq0.false)
-
 pub returns : goal.returns
-returns c = let l = c.loop-i in sym (l.invariant.1 ∙ none_left l.i l.rest (omega arith))
+returns c =
+    all_from_yields_List (λ b. count_ones b % 2 == 1) _ _ _ c.all.ensures.ran (YieldsList-from_slice c.to_be_bytes.result cc)
+    (λ x b q k. search (rules, tests))
+    ∙ ap (list_all (λ b. count_ones b % 2 == 1)) c.to_be_bytes.ensures
+    ∙ odd_bytes c.args.key

@@ -5,13 +5,11 @@ use Rattle.csm.specs.Fields.{field, KD}
 use Rattle.writer.specs.Contents.{kd_of, keys_text}
 use Rattle.writer.proofs.put_keys.Goals as goal
 
-pub returns-then-two : goal.returns-then-two
+pub returns-in-None : goal.returns-in-None
 unfolding keys_text
-returns-then-two c =
-    rw c.if-two.true (wrote_rest c.put_kd-a.ensures c.put_kd.ensures)
+returns-in-None c =
+    rw (c.in-None.is, append-nil ((field KD).print (kd_of c.args.first.now))) c.put_kd-a.ensures
 
-pub returns : goal.returns
+pub returns-in-Some : goal.returns-in-Some
 unfolding keys_text
-returns c =
-    let first = kd_of c.args.first in
-    rw (c.if-two.false, append-nil ((field KD).print first)) c.put_kd-a.ensures
+returns-in-Some c = rw c.in-Some.is (wrote_rest c.put_kd-a.ensures c.put_kd.ensures)

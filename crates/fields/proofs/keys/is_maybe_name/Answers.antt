@@ -1,12 +1,7 @@
--- `fields::keys::is_maybe_name` meets its contract: a text of no bytes is nothing. Assumes nothing.
-use native.Mathlib.Omega.{arith}
-use Rattle.fields.proofs.KeyLaws.{empty_same, full_same}
+-- A text of no bytes is nothing.
+use Rattle.std.proofs.Common.{sym, ◌∙◌}
+use Rattle.fields.proofs.KeyLaws.{empty_same}
 use Rattle.fields.proofs.keys.is_maybe_name.Goals as goal
 
-pub returns-then-w-eq0 : goal.returns-then-w-eq0
-returns-then-w-eq0 c = simp (empty_same c.args.w.now (omega arith))
-
-pub returns : goal.returns
-returns c =
-    let k = c in
-    simp (full_same k.args.w.now k.if-w-eq0.false) c.is_name.ensures
+pub returns-else-is_empty : goal.returns-else-is_empty
+returns-else-is_empty c = rw (empty_same c.args.w.now, sym c.is_empty.ensures ∙ c.if-is_empty.false) c.is_name.ensures

@@ -1,13 +1,10 @@
--- `fields::words::numeral` meets its contract: all digits are n and the rest, and n is of i digits. Assumes nothing.
-use mathlib.Core.Path.{◌≡◌}
-use Prim.Native.Nat.{◌-◌, ◌^◌, ◌≤◌, ◌<◌}
-use lib.ListN.{length, drop}
+-- Of the first digits the number is n, and it is of so many digits.
+use Rattle.std.proofs.Common.{◌≡◌, ◌^◌, ◌<◌, drop}
 use Rattle.csm.specs.Fields.{numeral}
 use Rattle.fields.proofs.words.numeral.Given as goal
 
-abbrev pub invariant-loop-i : goal.invariant-loop-i
-invariant-loop-i l =
-    (l.i ≤ length l.digits) × ((l.n < 16 ^ l.i) × (numeral l.base 0 l.digits ≡ numeral l.base l.n (drop l.i l.digits)))
-
-abbrev pub decreases-loop-i : goal.decreases-loop-i
-decreases-loop-i l = length l.digits - l.i
+abbrev pub invariant-loop-b : goal.invariant-loop-b
+invariant-loop-b l = record {
+  small : l.n < 16 ^ l.b-index;
+  rest : numeral l.base 0 l.digits ≡ numeral l.base l.n (drop l.b-index l.digits);
+}

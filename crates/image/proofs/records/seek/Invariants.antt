@@ -2,15 +2,13 @@
 use mathlib.Core.Path.{◌≡◌}
 use Prim.Native.Nat.{◌+◌, ◌-◌, ◌*◌, ◌≤◌}
 use Rattle.octets.specs.Number.{of_numbers}
-use Rattle.image.specs.Image.{partner_size, largest}
+use Rattle.image.specs.Image.{partner_size}
 use Rattle.image.specs.Places.{seek_slot}
 use Rattle.image.proofs.records.seek.Given as goal
 
 abbrev pub invariant-loop-slot : goal.invariant-loop-slot
-invariant-loop-slot l =
-    (l.slot ≤ l.count) × ((l.at + partner_size * l.count ≤ largest + partner_size * l.slot)
-    × (seek_slot l.count 0 l.from (of_numbers l.first l.second) l.image
-    ≡ seek_slot (l.count - l.slot) l.slot l.at (of_numbers l.first l.second) l.image))
-
-abbrev pub decreases-loop-slot : goal.decreases-loop-slot
-decreases-loop-slot l = l.count - l.slot
+invariant-loop-slot l = record {
+  near : l.at ≤ l.from + partner_size * l.slot;
+  so : seek_slot l.count 0 l.from (of_numbers l.first l.second) l.image
+      ≡ seek_slot (l.count - l.slot) l.slot l.at (of_numbers l.first l.second) l.image;
+}

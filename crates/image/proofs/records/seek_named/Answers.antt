@@ -11,7 +11,7 @@ use Rattle.octets.proofs.Comparing.{octets_lent, octets_part}
 use Rattle.octets.proofs.Writing.{rest_is}
 use Rattle.octets.proofs.Numbers.{number_fits}
 use Rattle.octets.proofs.Words.{numbers_are}
-use Rattle.image.specs.Places.{seek_slot}
+use Rattle.image.specs.Places.{below, seek_slot}
 use Rattle.image.proofs.records.seek_named.Goals as goal
 
 pub slice_bounds-number-end : goal.slice_bounds-number-end
@@ -30,4 +30,5 @@ returns c =
     let l : length s ≡ 16 = omega arith in
     let first = c.number-first.ensures ∙ eight s 0 8 o l refl in
     let second = c.number-second.ensures ∙ eight s 8 (length s - 8) o l (omega arith) ∙ ap number (rest_is 8 s) in
-    c.seek.ensures ∙ ap (λ (t : Text). seek_slot a.count 0 a.from t a.image.now) (numbers_are s l o _ _ first second)
+    c.seek.ensures
+    ∙ ap (λ (t : Text). below a.count (seek_slot a.count 0 a.from t a.image.now)) (numbers_are s l o _ _ first second)

@@ -6,4 +6,4 @@ use Rattle.messages.proofs.whole.put_esm.Goals as goal
 pub returns : goal.returns
 returns c =
     let a = c.args in
-    wrote_as (esm_text a.rcv.now a.org.now a.letters a.counts) (search wrote_rest)
+    wrote_as (esm_text a.to.rcv.now a.to.org.now a.letters a.counts) (search wrote_rest)

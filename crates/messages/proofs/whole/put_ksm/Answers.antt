@@ -8,11 +8,11 @@ pub seal-requires : goal.seal-requires
 unfolding ksm_reading
 seal-requires c =
     let a = c.args in
-    seal_ready (ksm_sealable a.rcv.now a.org.now a.ksm) a.mac_key c.put_covered-n.ensures c.requires.1
+    seal_ready (ksm_sealable a.to.rcv.now a.to.org.now a.ksm.now) a.mac_key c.put_covered-n.ensures c.requires.1
 
 pub returns : goal.returns
 unfolding ksm_reading
 returns c =
     let a = c.args in
-    wrote_sealed (ksm_sealable a.rcv.now a.org.now a.ksm) a.mac_key c.put_covered-n.ensures c.requires.1
+    wrote_sealed (ksm_sealable a.to.rcv.now a.to.org.now a.ksm.now) a.mac_key c.put_covered-n.ensures c.requires.1
     c.seal.ensures

@@ -6,4 +6,4 @@ use Rattle.messages.proofs.whole.put_rsi.Goals as goal
 pub returns : goal.returns
 returns c =
     let a = c.args in
-    wrote_as (rsi_text a.rcv.now a.org.now a.service) (search wrote_rest)
+    wrote_as (rsi_text a.to.rcv.now a.to.org.now a.service) (search wrote_rest)

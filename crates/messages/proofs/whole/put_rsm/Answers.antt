@@ -9,12 +9,12 @@ pub seal-requires : goal.seal-requires
 unfolding rsm_reading
 seal-requires c =
     let a = c.args in
-    seal_ready (rsm_sealable a.rcv.now a.org.now) a.mac_key
-    (wrote_as (rsm_text a.rcv.now a.org.now) c.put_head-n.ensures) c.requires
+    seal_ready (rsm_sealable a.to.rcv.now a.to.org.now) a.mac_key
+    (wrote_as (rsm_text a.to.rcv.now a.to.org.now) c.put_head-n.ensures) c.requires
 
 pub returns : goal.returns
 unfolding rsm_reading
 returns c =
     let a = c.args in
-    wrote_sealed (rsm_sealable a.rcv.now a.org.now) a.mac_key
-    (wrote_as (rsm_text a.rcv.now a.org.now) c.put_head-n.ensures) c.requires c.seal.ensures
+    wrote_sealed (rsm_sealable a.to.rcv.now a.to.org.now) a.mac_key
+    (wrote_as (rsm_text a.to.rcv.now a.to.org.now) c.put_head-n.ensures) c.requires c.seal.ensures

@@ -1,36 +1,25 @@
--- `reader::rows::counts_with_p` meets its contract: P is the eighth of the letters. Assumes nothing.
-use mathlib.Core.Path.{◌≡◌, ap, ◌∙◌}
-use mathlib.Core.Bool.{Bool, true, false, cond, not, ◌&&◌}
-use Prim.Native.Nat.{ℕ, ◌/◌, ◌%◌}
-use lib.Dec.{eqb}
-use borrow.Author.Tests.{eq-eqb, ne_eqb}
+-- P is the eighth of the letters.
+use Rattle.std.proofs.Common.{◌≡◌, ap, ◌∙◌, Bool, true, false, cond, not, ◌&&◌, ℕ, ◌/◌, ◌%◌, refl, nat_eq}
+use mathlib.Core.Bool.{beq}
 use Rattle.csm.proofs.WordTests.{has_P_bit}
 use Rattle.reader.specs.Stages.{agree}
 use Rattle.reader.proofs.rows.counts_with_p.Goals as goal
 
-agree-when : (erf : ℕ) (ctp ctr b : Bool) → eqb (erf / 128 % 2) 1 ≡ b
-    → agree erf ctp ctr ≡ cond b (ctp && ctr) (not ctp && not ctr)
+-- both are what p is
+agree_is : (erf : ℕ) (ctp ctr p : Bool) → nat_eq (erf / 128 % 2) 1 ≡ p → agree erf ctp ctr ≡ (beq ctp p && beq ctr p)
 unfolding agree
-agree-when erf ctp ctr b e = ap (λ (b : Bool). cond b (ctp && ctr) (not ctp && not ctr)) (has_P_bit erf ∙ e)
+agree_is erf ctp ctr p e = ap (λ (b : Bool). cond b (ctp && ctr) (not ctp && not ctr)) (has_P_bit erf ∙ e) ∙ go p ctp ctr
+  where
+    go : (p a b : Bool) → cond p (a && b) (not a && not b) ≡ (beq a p && beq b p)
+    go true true true = refl
+    go true true false = refl
+    go true false b = refl
+    go false true b = refl
+    go false false true = refl
+    go false false false = refl
 
--- with P
-pub returns-then-ctp : goal.returns-then-ctp
-returns-then-ctp c =
-    let a = c.args in
-    rw (agree-when a.erf a.ctp a.ctr true (eq-eqb _ _ c.if-erf-eq1.true), c.if-ctp.true)
+pub returns-then-ctp-p : goal.returns-then-ctp-p
+returns-then-ctp-p c = rw (agree_is c.args.erf c.args.ctp c.args.ctr _ refl, c.if-ctp-p.true)
 
-pub returns-else-ctp : goal.returns-else-ctp
-returns-else-ctp c =
-    let a = c.args in
-    rw (agree-when a.erf a.ctp a.ctr true (eq-eqb _ _ c.if-erf-eq1.true), c.if-ctp.false)
-
--- without P
-pub returns-then-not-ctp : goal.returns-then-not-ctp
-returns-then-not-ctp c =
-    let a = c.args in
-    rw (agree-when a.erf a.ctp a.ctr false (ne_eqb _ _ c.if-erf-eq1.false), c.if-not-ctp.true)
-
-pub returns-else-not-ctp : goal.returns-else-not-ctp
-returns-else-not-ctp c =
-    let a = c.args in
-    rw (agree-when a.erf a.ctp a.ctr false (ne_eqb _ _ c.if-erf-eq1.false), c.if-not-ctp.false)
+pub returns-else-ctp-p : goal.returns-else-ctp-p
+returns-else-ctp-p c = rw (agree_is c.args.erf c.args.ctp c.args.ctr _ refl, c.if-ctp-p.false)

@@ -1,21 +1,12 @@
--- `reader::rows::rsi_at` meets its contract: SVR, then an optional EDC to the end. Assumes nothing.
-use mathlib.Core.Path.{sym, ap, ◌∙◌}
-use mathlib.Core.Bool.{Bool, true, false, ◌&&◌}
+-- SVR, then an optional EDC to the end.
 use Rattle.reader.proofs.StageLaws.{rsi_step}
 use Rattle.reader.proofs.rows.rsi_at.Goals as goal
 
-pub returns-then-both : goal.returns-then-both
-returns-then-both c =
-    let a = c.args in
-    let v = c.service_field-service in
-    let all = c.both.ensures ∙ ap (λ (z : Bool). v.result.place.there && z) c.closing.ensures in
-    let whole = rsi_step a.head a.text.now a.at v.ensures c.check_field-check.ensures true (sym all ∙ c.if-both.true) in
-    rw c.optional-edc.ensures (sym whole)
+pub returns-in_err-svr : goal.returns-in_err-svr
+returns-in_err-svr c =
+    rw (c.from_residual.ensures, rsi_step c.args.head c.args.text.now c.args.at c.service_field-service.ensures c.check_field-check.ensures, c.in_err-svr.was)
 
 pub returns : goal.returns
 returns c =
-    let a = c.args in
-    let v = c.service_field-service in
-    let all = c.both.ensures ∙ ap (λ (z : Bool). v.result.place.there && z) c.closing.ensures in
-    let whole = rsi_step a.head a.text.now a.at v.ensures c.check_field-check.ensures false (sym all ∙ c.if-both.false) in
-    sym whole
+    rw (rsi_step c.args.head c.args.text.now c.args.at c.service_field-service.ensures c.check_field-check.ensures, c.in_ok-svr.was, ← c.closing.ensures)
+    c.then_some.ensures

@@ -1,5 +1,5 @@
 -- The name is lent where it stands.
-use mathlib.Core.Path.{refl, ap, ◌∙◌}
+use mathlib.Core.Path.{ap, ◌∙◌}
 use Prim.Native.Nat.{◌+◌}
 use native.Mathlib.Omega.{arith}
 use Rattle.octets.proofs.Parts.{part_cut}
@@ -11,13 +11,13 @@ pub returns-then-used : goal.returns-then-used
 unfolding place_formed is_named
 returns-then-used c =
     let a = c.args in
-    let name = part_cut 16 (a.at + 8) (a.at + 8 + 16) a.s.now refl (omega arith) in
+    let name = part_cut 16 (a.at + 8) (a.at + 24) a.s.now (omega arith) (omega arith) in
     rw c.if-used.true (c.is_named.ensures ∙ ap named_or_none name)
 
-pub returns : goal.returns
+pub returns-else-used : goal.returns-else-used
 unfolding place_formed is_unused
-returns c =
+returns-else-used c =
     let a = c.args in
-    let name = part_cut 16 (a.at + 8) (a.at + 8 + 16) a.s.now refl (omega arith) in
-    let key = c.number_in.ensures.value in
+    let name = part_cut 16 (a.at + 8) (a.at + 24) a.s.now (omega arith) (omega arith) in
+    let key = c.key_in.ensures in
     rw c.if-used.false (c.is_unused.ensures ∙ λ j. zero_place (key j) (name j))

@@ -12,24 +12,17 @@ use Rattle.writer.proofs.digits.put_hex.Goals as goal
 pub loop-i-init : goal.loop-i-init
 loop-i-init c =
     let a = c.args in
-    (omega arith, laying_none (omega (arith, hex_length a.k a.x, c.smaller-n.ensures)))
-
-pub overflow_sub-place : goal.overflow_sub-place
-overflow_sub-place c =
-    let a = c.args in
-    omega (arith, hex_length a.k a.x)
-
-pub digit_at-requires : goal.digit_at-requires
-digit_at-requires c =
-    let a = c.args in
-    omega (arith, hex_length a.k a.x)
+    laying_none (omega (arith, hex_length a.k a.x, c.min-n.ensures))
 
 pub loop-i-preserved : goal.loop-i-preserved
 loop-i-preserved c =
     let a = c.args in
+    let i = c.loop-i.i in
     let s : length (hex_text a.k a.x) ≡ a.k = hex_length a.k a.x in
-    let b = hex_at a.k a.x c.loop-i.i (c.loop-i.place - 1) (omega arith) in
-    (omega arith, laying_more c.loop-i.invariant.1 (omega arith) (c.digit_at.ensures ∙ sym b))
+    let b = hex_at a.k a.x i (a.k - 1 - i) (omega arith) in
+    laying_more c.loop-i.invariant (omega arith) (c.digit_at.ensures ∙ sym b)
 
 pub returns : goal.returns
-returns c = laying_all c.loop-i.invariant.1 (omega arith)
+returns c =
+    let all = laying_all c.loop-i.invariant c.loop-i-test.false in
+    record { text = all.text; count = c.loop-i.invariant.room }

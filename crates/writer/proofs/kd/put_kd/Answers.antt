@@ -12,10 +12,10 @@ grouped t h s b = simp append_assoc
 
 pub returns : goal.returns
 returns c =
-    let key = c.args.key in
+    let key = c.args.key.now in
     let h = hex_text 16 key.sealed in
-    let idk1 = c.bare.ensures in
-    let idk2 = c.bare-2.ensures in
+    let idk1 = c.bare-idk1.ensures in
+    let idk2 = c.bare-idk2.ensures in
     wrote_as
     (λ i. grouped (ascii "KD/") h (subfields key.p (nonempty (idk1 i)) (nonempty (idk2 i))) (blank ∷ []) i)
     (search wrote_rest)

@@ -1,27 +1,24 @@
--- `writer::kd::put_subfields` meets its contract in each of the four cases. Assumes nothing.
+-- `writer::kd::put_subfields` meets its contract where there are all three. Assumes nothing.
+use mathlib.Core.Path.{◌≡◌}
+use mathlib.Core.Bool.{Bool}
+use mathlib.Core.List.{[], ◌∷◌, ◌++◌, append_assoc}
+use Prim.Native.Nat.{◌<◌}
 use native.Mathlib.Omega.{arith}
-use Rattle.writer.proofs.Subfields.{three, two, marked, bare_key}
-use Rattle.octets.proofs.Writing.{wrote_rest, wrote_as, wrote_nothing}
+use lib.ListN.{length}
+use Rattle.std.proofs.lemmas.Bool.Decides.{nat_tests}
+use Rattle.octets.specs.Text.{Text}
+use Rattle.octets.proofs.Writing.{wrote_rest, wrote_as}
+use Rattle.csm.specs.Fields.{sub, mark, subfields, nonempty}
 use Rattle.writer.proofs.kd.put_subfields.Goals as goal
 
-pub returns-then-idk2-gt0 : goal.returns-then-idk2-gt0
-returns-then-idk2-gt0 c =
-    let a = c.args in
-    wrote_as (three a.p a.idk1.now a.idk2.now (omega arith)) (search wrote_rest)
+-- all three subfields
+three : (p : Bool) (i j : Text) → 0 < length j
+    → (sub (mark p) ++ sub i) ++ sub j ≡ subfields p (nonempty i) (nonempty j)
+three p i [] h = absurd (omega arith)
+three p [] (y ∷ j) h = append_assoc (sub (mark p)) (sub []) (sub (y ∷ j))
+three p (x ∷ i) (y ∷ j) h = append_assoc (sub (mark p)) (sub (x ∷ i)) (sub (y ∷ j))
 
-pub returns-then-idk1-gt0 : goal.returns-then-idk1-gt0
-returns-then-idk1-gt0 c =
+pub returns-then-not-is_empty : goal.returns-then-not-is_empty
+returns-then-not-is_empty c =
     let a = c.args in
-    wrote_as (two a.p a.idk1.now a.idk2.now (omega arith) (omega arith)) c.put_two.ensures
-
-pub returns-then-p : goal.returns-then-p
-returns-then-p c =
-    let a = c.args in
-    wrote_as (marked a.p a.idk1.now a.idk2.now (omega arith) (omega arith) c.if-p.true)
-    c.put_mark.ensures
-
-pub returns : goal.returns
-returns c =
-    let a = c.args in
-    wrote_as (bare_key a.p a.idk1.now a.idk2.now (omega arith) (omega arith) c.if-p.false)
-    (wrote_nothing a.rest.now)
+    wrote_as (three a.p a.idk1.now a.idk2.now (grind (arith, nat_tests))) (search wrote_rest)

@@ -1,7 +1,0 @@
--- Zero throughout.
-use Rattle.partner.specs.Entry.{empty}
-use Rattle.partner.proofs.empty.Goals as goal
-
-pub returns : goal.returns
-unfolding empty
-returns c = cc

@@ -1,5 +1,0 @@
--- By the phase.
-use Rattle.rules.proofs.idle_right.Goals as goal
-
-pub returns : goal.returns
-returns c = cc

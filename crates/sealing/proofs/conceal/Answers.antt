@@ -1,7 +1,0 @@
--- As the definition has it.
-use Rattle.keying.specs.Iv.{conceal}
-use Rattle.sealing.proofs.conceal.Goals as goal
-
-pub returns : goal.returns
-unfolding conceal
-returns c = cc

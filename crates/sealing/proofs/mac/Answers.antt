@@ -1,7 +1,0 @@
--- As the definition has it.
-use Rattle.keying.specs.Mac.{mac}
-use Rattle.sealing.proofs.mac.Goals as goal
-
-pub returns : goal.returns
-unfolding mac
-returns c = cc

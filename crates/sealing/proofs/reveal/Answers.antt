@@ -1,7 +1,0 @@
--- As the definition has it.
-use Rattle.keying.specs.Iv.{reveal}
-use Rattle.sealing.proofs.reveal.Goals as goal
-
-pub returns : goal.returns
-unfolding reveal
-returns c = cc

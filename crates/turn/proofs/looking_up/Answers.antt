@@ -1,5 +1,0 @@
--- `turn::looking_up` meets its contract: the answer so far goes through every test. Assumes nothing.
-use Rattle.turn.proofs.looking_up.Goals as goal
-
-pub returns : goal.returns
-returns c = cc
