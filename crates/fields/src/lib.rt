@@ -1,11 +1,11 @@
 // One field of a message at a place of the lent text: what its contents stand for, and where they stand.
 #![tactic(auto)]
 
-ghost use Rattle.std.specs.Prelude.{◌≡◌, Some, drop, option_map};
+ghost use Rattle.std.specs.Prelude.{◌≡◌, drop, option_map};
 ghost use Rattle.octets.specs.Text.{blank, is_run};
 ghost use Rattle.csm.specs.Format.{plain, upto, pre};
 ghost use Rattle.csm.specs.Fields.{count, check, hex, half_digits, svr, erf, kd, field, tag as tag_of, SVR, ERF, KD, MCL};
-ghost use Rattle.fields.specs.Seen.{taken, itself, check_text, field_at, as_part, as_number, as_key, name_at, class_of, class_name};
+ghost use Rattle.fields.specs.Seen.{taken, itself, check_text, field_at, as_part, as_number, as_key, name_at, class_of};
 ghost use Rattle.fields.specs.Steps as steps;
 
 mod keys;
@@ -14,7 +14,6 @@ mod words;
 
 use octets::Span;
 use pieces::Piece;
-use std::fmt;
 pub use words::{block, service};
 
 // What a field's contents stand for, if it is there; where what follows it starts, and where it was sought if it is missing.
@@ -52,23 +51,6 @@ pub enum Class {
     Ers,
     Rfs,
     Rtr,
-}
-
-impl fmt::Display for Class {
-    ghost output = { λ c. Some (class_name c) };
-
-    fn fmt<W: fmt::Write>(&self, f: &mut fmt::Formatter<W>) -> fmt::Result {
-        f.write_str(match self {
-            Class::Rsi => "RSI",
-            Class::Ksm => "KSM",
-            Class::Rsm => "RSM",
-            Class::Esm => "ESM",
-            Class::Dsm => "DSM",
-            Class::Ers => "ERS",
-            Class::Rfs => "RFS",
-            Class::Rtr => "RTR",
-        })
-    }
 }
 
 // A field with that tag at `at`, if `read` takes its contents for something.

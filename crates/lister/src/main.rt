@@ -1,8 +1,9 @@
 // The line lister: of each line on standard input its number, its class or `-`, and its length in bytes.
 #![tactic(auto)]
 
-ghost use Rattle.std.specs.Prelude.{◌≡◌, ◌≤◌};
+ghost use Rattle.std.specs.Prelude.{◌≡◌, ◌+◌, ◌≤◌, min};
 ghost use Rattle.csm.specs.Message.{read};
+ghost use Rattle.fields.specs.Seen.{class_name};
 ghost use Rattle.lister.specs.Listing.{listed_class, row_of};
 
 use fields::Class;
@@ -19,10 +20,26 @@ pub struct Row {
     pub bytes: Option<usize>,
 }
 
+// The name of a class, as MCL has it.
+fn class_name(class: Class) -> &'static str
+    ensures { result.now ≡ class_name class }
+{
+    match class {
+        Class::Rsi => "RSI",
+        Class::Ksm => "KSM",
+        Class::Rsm => "RSM",
+        Class::Esm => "ESM",
+        Class::Dsm => "DSM",
+        Class::Ers => "ERS",
+        Class::Rfs => "RFS",
+        Class::Rtr => "RTR",
+    }
+}
+
 impl fmt::Display for Row {
     fn fmt<W: fmt::Write>(&self, f: &mut fmt::Formatter<W>) -> fmt::Result {
         match self.class {
-            Some(class) => write!(f, "{class}")?,
+            Some(class) => f.write_str(class_name(class))?,
             None => f.write_str("-")?,
         }
         match self.bytes {
@@ -70,8 +87,10 @@ impl Held {
         &self.line[..self.bytes]
     }
 
-    // One byte more.
-    fn push(&mut self, b: u8) {
+    // One byte more, where fewer than 513 are held.
+    fn push(&mut self, b: u8)
+        ensures { self.new.bytes ≡ min (self.old.bytes + 1) 513 }
+    {
         if self.bytes < 513 {
             self.line[self.bytes] = b;
             self.bytes += 1;

@@ -35,6 +35,9 @@ join {a} {b} h k = ap (λ (x : Bool). x && b) h ∙ k
 pub and_then : (a b : Bool) {r : Bool} → a ≡ true → r ≡ b → r ≡ (a && b)
 and_then a b t e = rw t e
 
+pub and_else : (a b : Bool) {r : Bool} → a ≡ false → r ≡ false → r ≡ (a && b)
+and_else a b t e = rw t e
+
 -- two truths that follow from each other are one
 pub iff : (a b : Bool) → (a ≡ true → b ≡ true) → (b ≡ true → a ≡ true) → a ≡ b
 iff true b f g = sym (f refl)

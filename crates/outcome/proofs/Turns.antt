@@ -1,7 +1,6 @@
 -- What the code gives is what it gives of a turn.
 use mathlib.Core.Path.{refl}
-use borrow.Author.Tests.{lt-ltb}
-use Rattle.std.specs.Prelude.{◌≡◌, ℕ, ◌<◌, length, Option, None, Some, option_map, Ok, Err}
+use Rattle.std.specs.Prelude.{◌≡◌, ℕ, length, Option, None, Some, option_map, Ok, Err}
 use Rattle.octets.specs.Text.{Text}
 use Rattle.partner.specs.declared.Entry.{Entry}
 use Rattle.calls.specs.declared.Date.{Date}
@@ -11,7 +10,7 @@ use Rattle.calls.specs.Outcome.{Told, nothing, service, keys, confirmation, fail
 use Rattle.outcome.specs.declared.Told as code
 use Rattle.outcome.specs.declared.Told.TheVariants.{Nothing, Service, Keys, Confirmation, Failure}
 use Rattle.outcome.specs.declared.Given.TheVariants.{Done, Complaint}
-use Rattle.outcome.specs.Report.{report, turned, turned_of}
+use Rattle.outcome.specs.Report.{service_number, report, turned, turned_of}
 
 -- a refusal: the entry as it was
 pub refuses : (e : Entry) (r : Refusal) → turned_of e (Err r) ≡ turned (refused e (number r))
@@ -28,7 +27,7 @@ complains e f letters n reply h = rw h
 -- what the code tells, as the paper has it
 pub data Tells : code.Told → Told → Type 0 where
   a_nothing : Tells Nothing nothing
-  a_service : (place : ℕ) → place < 12 → Tells (Service place) (service place)
+  a_service : (place : ℕ) → Tells (Service (service_number place)) (service place)
   some_keys : (iv : Option ℕ) (date : Option Date) → Tells (Keys iv date) (keys iv (option_map (λ (d : Date). d.digits) date))
   a_confirmation : Tells Confirmation confirmation
   a_failure : (letters : ℕ) → Tells (Failure letters) (failure letters)
@@ -38,7 +37,7 @@ pub does : (e f : Entry) (n : ℕ) (reply : Text) {told : code.Told} {t : Told} 
     → turned_of e (Ok (record { entry = f; given = Done n told })) ≡ turned (done f reply t)
 unfolding turned report
 does e f n reply h a_nothing = rw h
-does e f n reply h (a_service place p) = rw (h, lt-ltb place 12 p)
+does e f n reply h (a_service place) = rw h
 does e f n reply h (some_keys None None) = rw h
 does e f n reply h (some_keys None (Some d)) = rw h
 does e f n reply h (some_keys (Some v) None) = rw h

@@ -133,7 +133,7 @@ telling letters n class wanted iv date = record {
 -- 0, the length of the reply, and what is told
 abbrev pub told_of : ℕ → code.Told → Report
 told_of n Nothing = plain 0 0 n
-told_of n (Service place) = telling 0 n 1 (place + 1) None None
+told_of n (Service number) = telling 0 n 1 number None None
 told_of n (Keys iv date) = telling 0 n 2 0 iv date
 told_of n Confirmation = telling 0 n 3 0 None None
 told_of n (Failure letters) = telling letters n 4 0 None None

@@ -19,12 +19,11 @@ pub const RSM: u8 = 3;
 
 pub const ESM: u8 = 4;
 
-// What is told besides: of an RSI the service wanted, by its place among the twelve contents of SVR, of a KSM IV and date, of
-// an ESM its letters.
+// What is told besides: of an RSI the number of the service wanted, of a KSM IV and date, of an ESM its letters.
 #[derive(Clone, Copy)]
 pub enum Told {
     Nothing,
-    Service(u8),
+    Service(u64),
     Keys { iv: Option<u64>, date: Option<Date> },
     Confirmation,
     Failure(u64),
@@ -79,13 +78,20 @@ fn plain(answer: u32, letters: u64, length: usize) -> Report
     }
 }
 
-// An RSI: the service wanted, the twelve from 1 on.
-fn told_service(length: usize, place: u8) -> Report
-    ensures { result ≡ report.told_of length (Service place) }
+// An RSI: the service wanted, by its place among the twelve contents of SVR; they are numbered from 1 on, 0 is none of them.
+pub fn told_service(place: u64) -> Told
+    ensures { result ≡ Service (report.service_number place) }
+{
+    Told::Service(if place < 12 { place + 1 } else { 0 })
+}
+
+// An RSI: the number of the service wanted.
+fn told_number(length: usize, number: u64) -> Report
+    ensures { result ≡ report.told_of length (Service number) }
 {
     Report {
         class: RSI,
-        service: place as u64 + 1,
+        service: number,
         ..plain(0, 0, length)
     }
 }
@@ -134,7 +140,7 @@ pub fn report_of(given: Result<Given, Refusal>) -> Report
         Ok(Given::Complaint { letters, length }) => plain(4, letters, length),
         Ok(Given::Done { length, told }) => match told {
             Told::Nothing => plain(0, 0, length),
-            Told::Service(place) => told_service(length, place),
+            Told::Service(number) => told_number(length, number),
             Told::Keys { iv, date } => told_keys(length, iv, date),
             Told::Confirmation => told_confirmation(length),
             Told::Failure(letters) => told_failure(length, letters),

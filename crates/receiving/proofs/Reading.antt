@@ -4,8 +4,6 @@ use mathlib.Core.Path.{◌≡◌, refl, sym, ap, subst, ◌∙◌}
 use mathlib.Core.Bool.{Bool, true, false}
 use Prim.Native.Nat.{ℕ, ◌^◌, ◌<◌}
 use native.Mathlib.Omega.{arith}
-use mir.Syntax.{w8}
-use mir.Val.{Fits}
 use borrow.Author.Tests.{ltb-true}
 use Rattle.octets.specs.Text.{Text, within}
 use Rattle.octets.specs.Part.{found}
@@ -177,9 +175,6 @@ reads_esm t m e = go (esm_back t m e)
         }
 
 -- ---- what `take` passes on
-
-pub rsi_fits : (t : Text) (m : reader_rsi.Rsi) → seen (read t) ≡ Some (message.Rsi m) → Fits w8 m.service
-rsi_fits t m e = let h = rsi_within t m e in record { fits = omega (arith, h) }
 
 pub ksm_fits : (t : Text) (m : reader_ksm.Ksm) → seen (read t) ≡ Some (message.Ksm m) → m.ctp.value < 2 ^ 32
 ksm_fits t m e = let w = within_true 1 limit m.ctp.value (count_within m t (reads_ksm t m e).good) in omega (arith, w.1)

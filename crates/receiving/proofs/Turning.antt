@@ -1,10 +1,12 @@
 -- What is made of a text is the turn of the steps; an error of it can be told by an ESM, and a service is one of twelve.
 use Rattle.std.specs.Prelude.{Option, None, Some, Result, Ok, Err}
-use mathlib.Core.Path.{◌≡◌, refl, sym, ap, subst}
+use mathlib.Core.Path.{◌≡◌, refl, sym, ap, subst, ◌∙◌}
 use mathlib.Core.Bool.{Bool, true, false, cond, not}
 use mathlib.Core.List.{[]}
-use Prim.Native.Nat.{ℕ}
+use Prim.Native.Nat.{ℕ, ◌-◌, ◌<◌}
+use native.Mathlib.Omega.{arith}
 use lib.Dec.{eqb}
+use borrow.Author.Tests.{lt-ltb}
 use Rattle.octets.specs.Text.{Text}
 use Rattle.keying.specs.Mac.{mac_key, mac}
 use Rattle.csm.specs.Covered.{covered}
@@ -31,7 +33,8 @@ use Rattle.calls.specs.Receive as steps
 use Rattle.calls.specs.Receive.{kds, foreign, uneven, brought, error, esm_body, rsm_text, when, faults, bad_count}
 use Rattle.calls.specs.Receive.{is_waiting, receive, receive_ksm, receive_rsm, receive_esm}
 use Rattle.calls.proofs.Turns.{letters_legal}
-use Rattle.outcome.specs.declared.Told.TheVariants.{Keys, Confirmation, Failure}
+use Rattle.outcome.specs.declared.Told.TheVariants.{Service, Keys, Confirmation, Failure}
+use Rattle.outcome.specs.Report.{service_number}
 use Rattle.outcome.specs.Acts.{receive_read}
 use Rattle.outcome.proofs.Turns.{Tells, a_service, some_keys, a_confirmation, a_failure}
 use Rattle.receiving.specs.declared.Taken.{Taken}
@@ -49,6 +52,10 @@ abbrev pub Lawful : Result Taken Fault → Type 0
 Lawful (Ok t) = Tells t.told (told_in t.told)
 Lawful (Err (Refused r)) = Unit {0}
 Lawful (Err (Error letters counts)) = legal_body (esm_body letters (counts_in counts)) ≡ true
+
+-- one of the twelve is found again by its number
+counted : (place : ℕ) → place < 12 → service_number place - 1 ≡ place
+counted place h = rw (lt-ltb place 12 h) (omega arith)
 
 -- it stands for that turn
 pub record Right (own : Text) (e : Entry) (r : Result Taken Fault) (u : Turn) : Type 0 where
@@ -165,8 +172,10 @@ module _ (own : Text) (e : Entry) (t : Text) where
           let b = rsi_back t m s in
           let place : b.value.svr ≡ m.service = ap (λ (n : reader_rsi.Rsi). n.service) b.seen in
           by_body b.reading (rsi b.value) b.is b.body refl (record {
-            same = ap (λ (n : ℕ). done e [] (service n)) (sym place);
-            lawful = a_service m.service (rsi_within t m s);
+            same = ap (λ (n : ℕ). done e [] (service n)) (counted m.service (rsi_within t m s) ∙ sym place);
+            lawful =
+                subst (λ (n : ℕ). Tells (Service (service_number m.service)) (service n))
+                (sym (counted m.service (rsi_within t m s))) (a_service m.service);
           })
       go (Some (message.Ksm m)) s =
           let r = reads_ksm t m s in by_body r.reading _ r.is r.body refl (ksm_right m l r.good)

@@ -1,5 +1,5 @@
 -- The stages of receive, in the code's values: what each hands on, or the refusal or the error that it finds.
-use Rattle.std.specs.Prelude.{Bool, not, ◌||◌, ◌&&◌, if◌then◌else◌, List, [], ◌∷◌, ◌++◌, ℕ, ◌+◌, eqb, ◌≡◌, length, drop}
+use Rattle.std.specs.Prelude.{Bool, not, ◌||◌, ◌&&◌, if◌then◌else◌, List, [], ◌∷◌, ◌++◌, ℕ, ◌+◌, ◌-◌, eqb, ◌≡◌, length, drop}
 use Rattle.std.specs.Prelude.{Option, None, Some, option_map, option_and_then, unwrap_or, Result, Ok, Err}
 use Rattle.std.specs.Option.{option_zip}
 use Rattle.std.specs.Bool.{then_some}
@@ -40,6 +40,7 @@ use Rattle.calls.specs.Outcome.{F, I, K, M, O, P, Turn, refused, done, Told, not
 use Rattle.calls.specs.Receive.{kds, foreign, when, bad_count, is_waiting, error, rsm_text}
 use Rattle.outcome.specs.declared.Told as code
 use Rattle.outcome.specs.declared.Told.TheVariants.{Nothing, Service, Keys, Confirmation, Failure}
+use Rattle.outcome.specs.Report.{service_number}
 use Rattle.receiving.specs.declared.Taken.{Taken}
 use Rattle.receiving.specs.declared.fault.Fault.{Fault}
 use Rattle.receiving.specs.declared.fault.Fault.TheVariants.{Refused, Error}
@@ -172,7 +173,7 @@ take_esm e m =
 
 unfoldable pub take : Text → Entry → Text → Option Message → Result Taken Fault
 take own e t None = Err (Refused NoMessage)
-take own e t (Some (message.Rsi m)) = Ok (record { entry = e; told = Service m.service })
+take own e t (Some (message.Rsi m)) = Ok (record { entry = e; told = Service (service_number m.service) })
 take own e t (Some (message.Ksm m)) = take_ksm own e t m
 take own e t (Some (message.Rsm m)) = take_rsm e t m
 take own e t (Some (message.Esm m)) = take_esm e m
@@ -187,7 +188,7 @@ counts_in counts = option_map (λ (c : Counts). (c.ctp, c.ctr)) counts
 -- what is told, as the steps have it
 abbrev pub told_in : code.Told → Told
 told_in Nothing = nothing
-told_in (Service place) = service place
+told_in (Service number) = service (number - 1)
 told_in (Keys iv date) = keys iv (option_map (λ (d : Date). d.digits) date)
 told_in Confirmation = confirmation
 told_in (Failure letters) = failure letters
@@ -196,7 +197,7 @@ told_in (Failure letters) = failure letters
 abbrev pub reply_to : Text → Entry → Taken → Text
 reply_to own e t = elim t.told [
   | Nothing ↦ []
-  | Service place ↦ []
+  | Service number ↦ []
   | Keys iv date ↦ rsm_text own e t.entry.receiving.incoming
   | Confirmation ↦ []
   | Failure letters ↦ []

@@ -92,7 +92,7 @@ fn take_esm(e: &Entry, m: &Esm) -> Result<Taken, Fault>
 
 // What the text makes of the entry: 1, then by class; an RSI: the service wanted is returned; an option: O.
 #[inline(never)]
-#[tactic(auto, unfolding(crate::specs::Stages::take), using(crate::proofs::Reading::rsi_fits, crate::proofs::Reading::ksm_fits, crate::proofs::Reading::esm_fits))]
+#[tactic(auto, unfolding(crate::specs::Stages::take), using(crate::proofs::Reading::ksm_fits, crate::proofs::Reading::esm_fits))]
 fn take(us: Parties, text: &[u8]) -> Result<Taken, Fault>
     ensures { result ≡ stages.take us.entry.own.now us.entry.e.now text.now (seen.seen (csm.read text.now)) }
 {
@@ -102,7 +102,7 @@ fn take(us: Parties, text: &[u8]) -> Result<Taken, Fault>
     match &message {
         Message::Rsi(m) => Ok(Taken {
             entry: *us.e,
-            told: Told::Service(m.service as u8),
+            told: outcome::told_service(m.service),
         }),
         Message::Ksm(m) => take_ksm(us, text, m),
         Message::Rsm(m) => take_rsm(us.e, text, m),

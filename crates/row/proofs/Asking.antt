@@ -51,7 +51,7 @@ asked_is own slots id = by_table (is_name own && legal (table own slots)) refl
     s = survey a slots
 
     seen : s.legal ≡ is_name own && legal (table own slots)
-    seen = survey_legal a own slots refl
+    seen = survey_legal a own slots refl refl
 
     by_entry : s.legal ≡ true → is_name id ≡ true → (o : Option Entry) → find (filled id) slots ≡ o
         → shown s ≡ shown_of (slot_of (filled id) slots) o

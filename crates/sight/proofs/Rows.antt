@@ -2,12 +2,11 @@
 use Rattle.std.proofs.Common.{◌≡◌, refl, sym, ap, ◌∙◌, Bool, true, false, cond, not, ◌&&◌, ◌||◌, List, [], ◌∷◌, length, ℕ, suc, ◌+◌, arith, add-zero, zero-add}
 use Rattle.std.proofs.Math.Bool.{and_assoc, and-true, and-false}
 use Rattle.std.proofs.Math.ListN.{set}
-use Rattle.std.specs.Prelude.{Option, None, Some, eqb, is_some}
+use Rattle.std.specs.Prelude.{None, Some, eqb, is_some}
 use Rattle.std.specs.List.{find as first}
 use Rattle.octets.specs.Text.{Text, same, is_name}
-use Rattle.partner.specs.declared.Name.{Name}
 use Rattle.partner.specs.declared.Entry.{Entry}
-use Rattle.partner.specs.Entry.{name_of, filled}
+use Rattle.partner.specs.Entry.{filled}
 use Rattle.partner.specs.Legal as partner
 use Rattle.partner.proofs.Claims.{claims}
 use Rattle.partner.specs.Table.{is_empty, slots_legal, identities, differs, apart, legal}
@@ -15,7 +14,7 @@ use Rattle.sight.specs.declared.aims.Aim.{Aim}
 use Rattle.sight.specs.declared.Slot.{Slot}
 use Rattle.sight.specs.declared.Sight.{Sight}
 use Rattle.sight.specs.Sight.{slot_legal, is_sought, sought_at, unseen, see, pass, concluded, survey}
-use Rattle.sight.specs.Aim.{identity, ours}
+use Rattle.sight.specs.Aim.{ours}
 use Rattle.sight.specs.Table.{table, row_legal as whole_legal}
 
 -- ---- legal
@@ -27,27 +26,26 @@ sorted true true false s o a = refl
 sorted true false q s o a = sym (and-false (q && s))
 sorted false n q s o a = sym (ap (λ (b : Bool). (q && s) && b) (and-false (n && o)) ∙ and-false (q && s))
 
--- where our own identity is a name
-module _ (a : Aim) (own : Name) (u : a.own ≡ Some own) where
+module _ (a : Aim) where
   -- every slot as it must be, and every identity its own
   abbrev row_legal : List Entry → Bool
-  row_legal slots = slots_legal slots && apart (own.bytes ∷ identities slots)
+  row_legal slots = slots_legal slots && apart (a.own.bytes ∷ identities slots)
 
   one_more : (e : Entry) (slots : List Entry)
       → slot_legal a e (differs e.identity.bytes (identities slots)) && row_legal slots ≡ row_legal (e ∷ slots)
   unfolding slot_legal slots_legal
-  one_more e slots = rw u (go (is_empty e))
+  one_more e slots = go (is_empty e)
     where
       go : (p : Bool)
-          → (p || (differs e.identity.bytes (identities slots) && not (same e.identity.bytes own.bytes) && partner.legal e))
-          && (slots_legal slots && (differs own.bytes (identities slots) && apart (identities slots)))
+          → (p || (differs e.identity.bytes (identities slots) && not (same e.identity.bytes a.own.bytes) && partner.legal e))
+          && (slots_legal slots && (differs a.own.bytes (identities slots) && apart (identities slots)))
           ≡ ((p || partner.legal e) && slots_legal slots)
-          && (differs own.bytes (cond p (identities slots) (e.identity.bytes ∷ identities slots))
+          && (differs a.own.bytes (cond p (identities slots) (e.identity.bytes ∷ identities slots))
           && apart (cond p (identities slots) (e.identity.bytes ∷ identities slots)))
       go true = refl
       go false =
-          sorted (differs e.identity.bytes (identities slots)) (not (same e.identity.bytes own.bytes))
-          (partner.legal e) (slots_legal slots) (differs own.bytes (identities slots)) (apart (identities slots))
+          sorted (differs e.identity.bytes (identities slots)) (not (same e.identity.bytes a.own.bytes))
+          (partner.legal e) (slots_legal slots) (differs a.own.bytes (identities slots)) (apart (identities slots))
 
   pass_legal : (s : Sight) (at : ℕ) (slots : List Entry) → (pass a s at slots).legal ≡ s.legal && row_legal slots
   unfolding pass slots_legal see
@@ -59,10 +57,14 @@ module _ (a : Aim) (own : Name) (u : a.own ≡ Some own) where
       ∙ ap (λ (b : Bool). s.legal && b) (one_more e slots)
 
 -- the row is legal exactly where its table is and our identity is a name
-pub survey_legal : (a : Aim) (own : Text) (slots : List Entry) → a.own ≡ identity own
+pub survey_legal : (a : Aim) (own : Text) (slots : List Entry) → a.own.bytes ≡ filled own → a.ours ≡ is_name own
     → (survey a slots).legal ≡ is_name own && legal (table own slots)
 unfolding survey concluded legal
-survey_legal a own slots o = go (is_name own) refl
+survey_legal a own slots o u =
+    ap (λ (b : Bool). (b && eqb (length slots) 64) && a.ours) (pass_legal a unseen 0 slots)
+    ∙ ap (λ (b : Bool). (row_legal a slots && eqb (length slots) 64) && b) u
+    ∙ ap (λ (w : Text). ((slots_legal slots && apart (w ∷ identities slots)) && eqb (length slots) 64) && is_name own) o
+    ∙ go (is_name own) refl
   where
     table_legal : (e f s p : Bool) → f ≡ true → ((s && p) && e) && true ≡ e && f && s && p
     table_legal true f true true h = rw h
@@ -72,23 +74,13 @@ survey_legal a own slots o = go (is_name own) refl
     table_legal false f true false h = refl
     table_legal false f false p h = refl
 
-    named : a.own ≡ Some (name_of own) → is_name own ≡ true
-        → ((pass a unseen 0 slots).legal && eqb (length slots) 64) && is_some a.own
-        ≡ eqb (length slots) 64 && partner.is_filled (filled own) && slots_legal slots && apart (filled own ∷ identities slots)
-    named u h =
-        ap (λ (b : Bool). (b && eqb (length slots) 64) && is_some a.own) (pass_legal a (name_of own) u unseen 0 slots)
-        ∙ ap (λ (n : Option Name). ((slots_legal slots && apart (filled own ∷ identities slots)) && eqb (length slots) 64) && is_some n) u
-        ∙ table_legal (eqb (length slots) 64) (partner.is_filled (filled own)) (slots_legal slots)
-        (apart (filled own ∷ identities slots)) (claims.filled_is_filled own h)
-
     go : (b : Bool) → is_name own ≡ b
-        → ((pass a unseen 0 slots).legal && eqb (length slots) 64) && is_some a.own
+        → ((slots_legal slots && apart (filled own ∷ identities slots)) && eqb (length slots) 64) && b
         ≡ b && (eqb (length slots) 64 && partner.is_filled (filled own) && slots_legal slots && apart (filled own ∷ identities slots))
-    go true h = named (o ∙ rw h) h
-    go false h =
-        let l : Bool = (pass a unseen 0 slots).legal && eqb (length slots) 64 in
-        let u : a.own ≡ None = o ∙ rw h in
-        ap (λ (n : Option Name). l && is_some n) u ∙ and-false l
+    go true h =
+        table_legal (eqb (length slots) 64) (partner.is_filled (filled own)) (slots_legal slots)
+        (apart (filled own ∷ identities slots)) (claims.filled_is_filled own h)
+    go false h = and-false ((slots_legal slots && apart (filled own ∷ identities slots)) && eqb (length slots) 64)
 
 -- ---- the first slot of which a test holds
 
@@ -211,4 +203,4 @@ pub legal_is : (own : Text) (slots : List Entry) (a : Aim) → a ≡ ours own �
 unfolding whole_legal
 legal_is own slots a ea s es r er =
     er ∙ ap (λ (x : Sight). x.legal) es ∙ ap (λ (x : Aim). (survey x slots).legal) ea
-    ∙ survey_legal (ours own) own slots refl
+    ∙ survey_legal (ours own) own slots refl refl

@@ -7,6 +7,7 @@ use Rattle.octets.specs.Text.{Text, same, is_name}
 use Rattle.csm.specs.Message.{Reading, read}
 use Rattle.calls.specs.declared.Refusal.TheVariants.{ForAnother}
 use Rattle.partner.specs.declared.Entry.{Entry}
+use Rattle.partner.specs.Entry.{filled}
 use Rattle.partner.specs.Table as tables
 use Rattle.partner.specs.Table.{identities, differs}
 use Rattle.sight.specs.declared.aims.Act.{Act}
@@ -14,7 +15,7 @@ use Rattle.sight.specs.declared.aims.Act.TheVariants.{Receive, BuildKsm, BuildRs
 use Rattle.sight.specs.declared.aims.Aim.{Aim}
 use Rattle.sight.specs.declared.Slot.{Slot}
 use Rattle.sight.specs.declared.Sight.{Sight}
-use Rattle.sight.specs.Aim.{identity, at_partner, refused, of_reading, aim_of}
+use Rattle.sight.specs.Aim.{at_partner, refused, of_reading, aim_of}
 use Rattle.sight.specs.Sight.{is_theirs, is_sought, unseen, see, pass, concluded, survey, entry_in, put_in}
 use Rattle.sight.specs.Table.{table}
 use Rattle.sight.proofs.Rows.{putting, putting_first, survey_legal, survey_found, survey_puts, survey_missed}
@@ -78,9 +79,10 @@ module _ (a : Aim) where
           let k = hit slots e h in
           k.2 (entry_in (survey a slots).slot) ∙ ap (λ (x : Entry). putting (is_sought a) x slots) k.1 ∙ putting_first (is_sought a) slots e h
 
-pub sees_survey : (own : Text) (slots : List Entry) (a : Aim) → a.own ≡ identity own → Sees own slots a (survey a slots)
-sees_survey own slots a o = record {
-  legal = survey_legal a own slots o;
+pub sees_survey : (own : Text) (slots : List Entry) (a : Aim) → a.own.bytes ≡ filled own → a.ours ≡ is_name own
+    → Sees own slots a (survey a slots)
+sees_survey own slots a o u = record {
+  legal = survey_legal a own slots o u;
   found = λ l. hit a slots;
   missed = λ l. survey_missed a slots;
   taken = λ l v. survey_taken a slots;
@@ -90,25 +92,28 @@ sees_survey own slots a o = record {
 -- ---- of every call
 
 -- whoever the partner is, our identity is ours
-reading_ours : (own : Text) (o : Option Reading) → (of_reading own o).own ≡ identity own
+reading_ours : (own : Text) (o : Option Reading) → ((of_reading own o).own.bytes ≡ filled own) × ((of_reading own o).ours ≡ is_name own)
 unfolding of_reading
-reading_ours own None = refl
+reading_ours own None = (refl, refl)
 reading_ours own (Some r) = go (not (same r.rcv own))
   where
-    go : (b : Bool) → (cond b (refused own ForAnother) (at_partner own r.org)).own ≡ identity own
-    go true = refl
-    go false = refl
+    go : (b : Bool) → ((cond b (refused own ForAnother) (at_partner own r.org)).own.bytes ≡ filled own)
+        × ((cond b (refused own ForAnother) (at_partner own r.org)).ours ≡ is_name own)
+    go true = (refl, refl)
+    go false = (refl, refl)
 
-act_ours : (x : Act) (own who text : Text) → (aim_of x own who text).own ≡ identity own
+act_ours : (x : Act) (own who text : Text) → ((aim_of x own who text).own.bytes ≡ filled own) × ((aim_of x own who text).ours ≡ is_name own)
 unfolding aim_of
 act_ours Receive own who text = reading_ours own (read text)
-act_ours BuildKsm own who text = refl
-act_ours BuildRsi own who text = refl
-act_ours GiveUp own who text = refl
-act_ours Remove own who text = refl
-act_ours Ask own who text = refl
-act_ours (Load top) own who text = refl
+act_ours BuildKsm own who text = (refl, refl)
+act_ours BuildRsi own who text = (refl, refl)
+act_ours GiveUp own who text = (refl, refl)
+act_ours Remove own who text = (refl, refl)
+act_ours Ask own who text = (refl, refl)
+act_ours (Load top) own who text = (refl, refl)
 
 pub sees_asked : (own : Text) (slots : List Entry) (q : Act) (who text : Text)
     → Sees own slots (aim_of q own who text) (survey (aim_of q own who text) slots)
-sees_asked own slots q who text = sees_survey own slots (aim_of q own who text) (act_ours q own who text)
+sees_asked own slots q who text =
+    let k = act_ours q own who text in
+    sees_survey own slots (aim_of q own who text) k.0 k.1

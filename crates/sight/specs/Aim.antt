@@ -17,19 +17,19 @@ identity w = cond (is_name w) (Some (name_of w)) None
 
 -- ourselves, and nobody else
 abbrev pub ours : Text → Aim
-ours own = record { own = identity own; partner = None; vacant = false; refused = None; room = 0 }
+ours own = record { own = name_of own; ours = is_name own; partner = None; vacant = false; refused = None; room = 0 }
 
 -- a partner by its identity
 abbrev pub at_partner : Text → Text → Aim
-at_partner own id = record { own = identity own; partner = identity id; vacant = false; refused = None; room = 0 }
+at_partner own id = record { own = name_of own; ours = is_name own; partner = identity id; vacant = false; refused = None; room = 0 }
 
 -- a free slot for a partner
 abbrev pub at_free_slot : Text → Text → Aim
-at_free_slot own id = record { own = identity own; partner = identity id; vacant = true; refused = None; room = 0 }
+at_free_slot own id = record { own = name_of own; ours = is_name own; partner = identity id; vacant = true; refused = None; room = 0 }
 
 -- nobody: the text is refused
 abbrev pub refused : Text → Refusal → Aim
-refused own r = record { own = identity own; partner = None; vacant = false; refused = Some r; room = 0 }
+refused own r = record { own = name_of own; ours = is_name own; partner = None; vacant = false; refused = Some r; room = 0 }
 
 -- the originator of a text to us; 2 where RCV is not us, 1 where there is no reading
 unfoldable pub of_reading : Text → Option Reading → Aim
@@ -41,7 +41,7 @@ of_text own text = of_reading own (read text)
 
 -- the same, and this room is asked for
 abbrev pub with_room : Aim → ℕ → Aim
-with_room a room = record { own = a.own; partner = a.partner; vacant = a.vacant; refused = a.refused; room = room }
+with_room a room = record { own = a.own; ours = a.ours; partner = a.partner; vacant = a.vacant; refused = a.refused; room = room }
 
 -- by whom, of whom, and the text that goes with it: a reply may follow what is received and what is built; a load seeks a
 -- free slot

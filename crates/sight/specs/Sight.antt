@@ -1,5 +1,5 @@
 -- What is seen of a row: one pass over its slots, which tells whether it is legal and where the slot is that is sought.
-use Rattle.std.specs.Prelude.{Bool, true, false, cond, not, ◌&&◌, ◌||◌, List, [], ◌∷◌, ℕ, ◌+◌, eqb, length, set, Option, None, Some, is_some}
+use Rattle.std.specs.Prelude.{Bool, true, false, cond, not, ◌&&◌, ◌||◌, List, [], ◌∷◌, ℕ, ◌+◌, eqb, length, set, Option, None, Some}
 use Rattle.std.specs.Option.{option_or}
 use Rattle.octets.specs.Text.{same}
 use Rattle.partner.specs.declared.Name.{Name}
@@ -23,7 +23,7 @@ is_of (Some n) e = same e.identity.bytes n.bytes
 
 -- a slot is as it must be: empty, or a legal entry with an identity of its own
 unfoldable pub slot_legal : Aim → Entry → Bool → Bool
-slot_legal a e apart = is_empty e || (apart && not (is_of a.own e) && partner.legal e)
+slot_legal a e apart = is_empty e || (apart && not (same e.identity.bytes a.own.bytes) && partner.legal e)
 
 -- it is the partner's
 unfoldable pub is_theirs : Aim → Entry → Bool
@@ -58,7 +58,7 @@ pass a s at (e ∷ slots) =
 -- all slots are seen: 64 of them and our own identity well-formed, or it is not legal
 unfoldable pub concluded : Aim → Sight → ℕ → Sight
 concluded a s count = record {
-  legal = (s.legal && eqb count 64) && is_some a.own;
+  legal = (s.legal && eqb count 64) && a.ours;
   taken = s.taken;
   slot = s.slot;
 }

@@ -18,11 +18,13 @@ pub enum Act {
     Load(Top),
 }
 
-// Our identity and the partner's, filled with blanks, where each is well-formed, and whether a free slot is sought; what a
-// text is refused for before its partner is looked up; the room that is asked for.
+// Our identity and the partner's, filled with blanks: ours and whether it is well-formed, the partner's where it is; whether a
+// free slot is sought; what a text is refused for before its partner is looked up; the room that is asked for.
 #[derive(Clone, Copy)]
 pub struct Aim {
-    pub own: Option<Name>,
+    pub own: Name,
+    // A flag beside a value: our identity is compared also where it is no name.
+    pub ours: bool,
     pub partner: Option<Name>,
     pub vacant: bool,
     pub refused: Option<Refusal>,
@@ -46,7 +48,8 @@ impl Aim {
         ensures { result ≡ aims.ours own.now }
     {
         Aim {
-            own: identity(own),
+            own: partner::name_of(own),
+            ours: octets::is_name(own),
             partner: None,
             vacant: false,
             refused: None,

@@ -79,7 +79,7 @@ impl Aim {
     fn slot_legal(&self, e: &Entry, apart: bool) -> bool
         ensures { result ≡ sights.slot_legal self.now e.now apart }
     {
-        is_empty(e) || (apart && !is_of(self.own, e) && rules::legal(*e))
+        is_empty(e) || (apart && !is_of(Some(self.own), e) && rules::legal(*e))
     }
 
     // Whether a slot is the partner's.
@@ -143,7 +143,7 @@ impl Sight {
     pub fn conclude(&mut self, aim: &Aim, count: usize)
         ensures { self.new ≡ sights.concluded aim.now self.old count }
     {
-        self.legal = self.legal && count == 64 && aim.own.is_some();
+        self.legal = self.legal && count == 64 && aim.ours;
     }
 
     // The answer to who asks for an entry, the number of its slot, and the entry; 64 and an empty one with a refusal.

@@ -32,7 +32,7 @@ use Rattle.sight.specs.Aim.{identity, at_free_slot}
 use Rattle.sight.specs.Sight.{is_theirs, is_sought, entry_in, put_in}
 use Rattle.sight.proofs.Finding.{is_of_name, none_free, one_free}
 use Rattle.sight.proofs.Sees.{any_theirs, Sees}
-use Rattle.turn.specs.Way.{one_name, load, unfit, loading, glance, refusal, turn, take}
+use Rattle.turn.specs.Way.{is_own, load, unfit, loading, glance, refusal, turn, take}
 use Rattle.turn.proofs.Acting.{way_turned}
 use Rattle.turn.proofs.Answers.{gives_further, loads_10, loads_12, loads_11, loads_9, loads_0}
 use Rattle.turn.proofs.Ends.{t, Ends, refuses}
@@ -62,48 +62,45 @@ module _ (own id : Text) (named : is_name id ≡ true) where
           both false b = refl
 
 -- 10 exactly where the table gives it
-module _ (own id : Text) (ours : is_name own ≡ true) where
-  unfit_is : (slots : List Entry) (s : Sight) → s.taken ≡ any_theirs (at_free_slot own id) slots
-      → unfit (at_free_slot own id) (glance s) ≡ not (is_name id && differs (filled id) (filled own ∷ identities slots))
-  unfolding unfit
-  unfit_is slots s k = by_name (is_name id) refl
-    where
-      either : (a b : Bool) → not b || a ≡ not (not a && b)
-      either true true = refl
-      either true false = refl
-      either false true = refl
-      either false false = refl
+unfit_is : (own id : Text) (slots : List Entry) (s : Sight) → s.taken ≡ any_theirs (at_free_slot own id) slots
+    → unfit (at_free_slot own id) (glance s) ≡ not (is_name id && differs (filled id) (filled own ∷ identities slots))
+unfolding unfit
+unfit_is own id slots s k = by_name (is_name id) refl
+  where
+    either : (a b : Bool) → not b || a ≡ not (not a && b)
+    either true true = refl
+    either true false = refl
+    either false true = refl
+    either false false = refl
 
-      by_name : (b : Bool) → is_name id ≡ b
-          → not (is_some (identity id)) || (s.taken || one_name (identity own) (identity id))
-          ≡ not (is_name id && (not (same (filled own) (filled id)) && differs (filled id) (identities slots)))
-      by_name true h =
-          let i : identity id ≡ Some (name_of id) = rw h in
-          let o : identity own ≡ Some (name_of own) = rw ours in
-          ap (λ (x : Option Name). not (is_some x) || (s.taken || one_name (identity own) x)) i
-          ∙ ap (λ (x : Option Name). s.taken || one_name x (Some (name_of id))) o
-          ∙ ap (λ (b : Bool). b || same (filled own) (filled id)) (k ∙ theirs_differ own id h slots)
-          ∙ either (same (filled own) (filled id)) (differs (filled id) (identities slots))
-          ∙ sym (ap (λ (b : Bool). not (b && (not (same (filled own) (filled id)) && differs (filled id) (identities slots)))) h)
-      by_name false h =
-          let i : identity id ≡ None = rw h in
-          ap (λ (x : Option Name). not (is_some x) || (s.taken || one_name (identity own) x)) i
-          ∙ sym (ap (λ (b : Bool). not (b && (not (same (filled own) (filled id)) && differs (filled id) (identities slots)))) h)
+    by_name : (b : Bool) → is_name id ≡ b
+        → not (is_some (identity id)) || (s.taken || is_own (name_of own) (identity id))
+        ≡ not (is_name id && (not (same (filled own) (filled id)) && differs (filled id) (identities slots)))
+    by_name true h =
+        let i : identity id ≡ Some (name_of id) = rw h in
+        ap (λ (x : Option Name). not (is_some x) || (s.taken || is_own (name_of own) x)) i
+        ∙ ap (λ (b : Bool). b || same (filled own) (filled id)) (k ∙ theirs_differ own id h slots)
+        ∙ either (same (filled own) (filled id)) (differs (filled id) (identities slots))
+        ∙ sym (ap (λ (b : Bool). not (b && (not (same (filled own) (filled id)) && differs (filled id) (identities slots)))) h)
+    by_name false h =
+        let i : identity id ≡ None = rw h in
+        ap (λ (x : Option Name). not (is_some x) || (s.taken || is_own (name_of own) x)) i
+        ∙ sym (ap (λ (b : Bool). not (b && (not (same (filled own) (filled id)) && differs (filled id) (identities slots)))) h)
 
-  -- where it is not given, the identity is a name
-  fit_named : (g : Glance) → unfit (at_free_slot own id) g ≡ false → identity id ≡ Some (name_of id)
-  unfolding unfit
-  fit_named g u = by_name (is_name id) refl u
-    where
-      by_name : (b : Bool) → is_name id ≡ b → not (is_some (identity id)) || (g.taken || one_name (identity own) (identity id)) ≡ false
-          → identity id ≡ Some (name_of id)
-      by_name true h k = rw h
-      by_name false h k = let i : identity id ≡ None = rw h in cc
+-- where it is not given, the identity is a name
+fit_named : (own id : Text) (g : Glance) → unfit (at_free_slot own id) g ≡ false → identity id ≡ Some (name_of id)
+unfolding unfit
+fit_named own id g u = by_name (is_name id) refl u
+  where
+    by_name : (b : Bool) → is_name id ≡ b → not (is_some (identity id)) || (g.taken || is_own (name_of own) (identity id)) ≡ false
+        → identity id ≡ Some (name_of id)
+    by_name true h k = rw h
+    by_name false h k = let i : identity id ≡ None = rw h in cc
 
 -- ---- the load
 
 module _ (own : Text) (slots : List Entry) (s : Sight) (id name : Text) (top : Top) (room : ℕ)
-    (z : Sees own slots (at_free_slot own id) s) (ours : is_name own ≡ true) (l : s.legal ≡ true) (roomy : ltb room 0 ≡ false) where
+    (z : Sees own slots (at_free_slot own id) s) (l : s.legal ≡ true) (roomy : ltb room 0 ≡ false) where
   abbrev a : Aim
   a = at_free_slot own id
 
@@ -131,7 +128,7 @@ module _ (own : Text) (slots : List Entry) (s : Sight) (id name : Text) (top : T
     placed (Some f) h =
         let k = z.found l f h in
         let d = way_turned own a s asks name room 0 (loads_0 a (glance s) (is_name name) (odd_top top) u n o k.0 ∙ order) refl
-        ∙ ap (λ (i : Option Name). load i (entry_in s.slot) name top) (fit_named own id ours (glance s) u) in
+        ∙ ap (λ (i : Option Name). load i (entry_in s.slot) name top) (fit_named own id (glance s) u) in
         subst (λ (p : Option (List Entry)). Loads (every.after_load (t own slots) p)) (sym (one_free x slots f h))
         (ap (λ (r : Turn). r.outcome) d, ap (λ (r : Turn). put_in s.slot r.entry slots) d ∙ k.2 x)
 
@@ -140,7 +137,7 @@ module _ (own : Text) (slots : List Entry) (s : Sight) (id name : Text) (top : T
   loads = by_identity (unfit a (glance s)) refl
     where
       taken : unfit a (glance s) ≡ not (is_name id && differs (filled id) (filled own ∷ identities slots))
-      taken = unfit_is own id ours slots s (z.taken l refl)
+      taken = unfit_is own id slots s (z.taken l refl)
 
       by_key : unfit a (glance s) ≡ false → is_name name ≡ true → (b : Bool) → odd_top top ≡ b
           → Loads (in_case not (odd_top top) then refuse (t own slots) 11 else every.after_load (t own slots) (into_free_slot x slots))

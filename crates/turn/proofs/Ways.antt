@@ -70,7 +70,7 @@ module _ (own : Text) (slots : List Entry) where
   performed s Ask who text room n w l z =
       roomed own slots _ s z Ask text room l false _ (roomless room) (λ h.
       at_entry own slots _ s z Ask text room l n w who _ refl refl refl refl h (λ e g. refl))
-  performed s (Load top) who text room n w l z = loads own slots s who text top room z n l (roomless room)
+  performed s (Load top) who text room n w l z = loads own slots s who text top room z l (roomless room)
 
   -- every call
   ends : (s : Sight) (x : Act) (who text : Text) (room : ℕ) → Sees own slots (aim_of x own who text) s

@@ -24,15 +24,14 @@ use Rattle.request.specs.Request.{request_in}
 
 -- ---- the order of the answers
 
--- two names are one; where one of them is none, they are not
-abbrev pub one_name : Option Name → Option Name → Bool
-one_name None n = false
-one_name (Some m) None = false
-one_name (Some m) (Some n) = same m.bytes n.bytes
+-- a partner's name is our own; where there is none, it is not
+abbrev pub is_own : Name → Option Name → Bool
+is_own own None = false
+is_own own (Some n) = same own.bytes n.bytes
 
 -- an identity malformed, our own, or taken
 unfoldable pub unfit : Aim → Glance → Bool
-unfit a g = not (is_some a.partner) || (g.taken || one_name a.own a.partner)
+unfit a g = not (is_some a.partner) || (g.taken || is_own a.own a.partner)
 
 -- of a load: 10, 12, 11, 9
 abbrev pub loading : Aim → Glance → Bool → Bool → Order

@@ -17,13 +17,13 @@ use sight::{Glance, Sight};
 
 // ---- the order of the answers
 
-// Whether two names are one; where one of them is none, they are not.
-fn one_name(a: Option<Name>, b: Option<Name>) -> bool
-    ensures { result ≡ way.one_name a b }
+// Whether a partner's name is our own; where there is none, it is not.
+fn is_own(own: Name, partner: Option<Name>) -> bool
+    ensures { result ≡ way.is_own own partner }
 {
-    match (a, b) {
-        (Some(m), Some(n)) => octets::same(&m.bytes, &n.bytes),
-        _ => false,
+    match partner {
+        Some(name) => own.bytes == name.bytes,
+        None => false,
     }
 }
 
@@ -32,7 +32,7 @@ fn one_name(a: Option<Name>, b: Option<Name>) -> bool
 fn unfit(aim: &Aim, glance: Glance) -> bool
     ensures { result ≡ way.unfit aim.now glance }
 {
-    aim.partner.is_none() || glance.taken || one_name(aim.own, aim.partner)
+    aim.partner.is_none() || glance.taken || is_own(aim.own, aim.partner)
 }
 
 // Of a load: 10, 12, 11, 9.

@@ -1,8 +1,12 @@
 // What a line asks for: its operation and its four numbers.
+ghost use Rattle.std.specs.Prelude.{◌<◌};
+
 use keying::{Blocks, Top};
 
 // The value of a hexadecimal digit; of any other byte, zero.
-fn digit(b: u8) -> u8 {
+fn digit(b: u8) -> u8
+    ensures { result < 16 }
+{
     match b {
         b'0'..=b'9' => b - b'0',
         b'A'..=b'F' => b - b'A' + 10,
