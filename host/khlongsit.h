@@ -36,8 +36,8 @@
  * - Keys and key schedules are left on the stack by a call, and keys may be left in registers. A host that wants them
  *   gone overwrites KHL_STACK bytes of stack after the call, from where it was called; host/bytes.c does so.
  * - A call needs at most KHL_STACK bytes of stack: a test paints the stack and holds every call to that, with 64
- *   partners. Today receive uses 3,984 bytes, build a KSM 3,168, build an RSI 1,800, give up 1,528, the others at most
- *   1,080.
+ *   partners. Today receive uses 3,984 bytes, build a KSM 3,168, build an RSI 1,800, give up 1,512, the others at most
+ *   1,064.
  */
 #ifndef KHLONGSIT_H
 #define KHLONGSIT_H

@@ -7,3 +7,6 @@ use Rattle.calls.proofs as fn
 
 pub number : OneOutcome contract.Refusal.number.ended fn.Refusal.number.Reads.Post
 number κs a x y v w p q = (alike p q, refl)
+
+pub numbered : OneOutcome contract.Refusal.numbered.ended fn.Refusal.numbered.Reads.Post
+numbered κs a x y v w p q = (alike p q, refl)

@@ -1,5 +1,6 @@
 -- The refusals of the code by the paper's numbers (document 01, "Answers").
-use Rattle.std.specs.Prelude.{ℕ, Result, Ok, Err}
+use Rattle.std.specs.Prelude.{List, [], ◌∷◌, ℕ, eqb, Option, Result, Ok, Err}
+use Rattle.std.specs.List.{find}
 use Rattle.calls.specs.declared.Refusal.{Refusal}
 use Rattle.calls.specs.declared.Refusal.TheVariants.{NoMessage, ForAnother, NoPartner, NothingWaiting, NoRoom, AlreadyWaiting}
 use Rattle.calls.specs.declared.Refusal.TheVariants.{CountUsedUp, TableFull, BadIdentity, EvenKey, Malformed, Illegal}
@@ -22,3 +23,13 @@ number Illegal = 13
 abbrev pub answer_of : {A : Type 0} → Result A Refusal → ℕ
 answer_of (Ok a) = 0
 answer_of (Err r) = number r
+
+-- all of them, by their numbers
+abbrev pub every : List Refusal
+every =
+    NoMessage ∷ ForAnother ∷ NoPartner ∷ NothingWaiting ∷ NoRoom ∷ AlreadyWaiting ∷ CountUsedUp ∷ TableFull ∷ BadIdentity ∷ EvenKey
+    ∷ Malformed ∷ Illegal ∷ []
+
+-- the refusal of a number; 0, 4 and what is past 13 are the number of none
+abbrev pub numbered : ℕ → Option Refusal
+numbered n = find (λ r. eqb (number r) n) every

@@ -76,4 +76,25 @@ impl Refusal {
     {
         self as u32
     }
+
+    // The refusal of that number; none is that of 0, of 4 or of one past 13.
+    pub fn numbered(answer: u32) -> Option<Refusal>
+        ensures { result ≡ refusals.numbered answer }
+    {
+        match answer {
+            1 => Some(Refusal::NoMessage),
+            2 => Some(Refusal::ForAnother),
+            3 => Some(Refusal::NoPartner),
+            5 => Some(Refusal::NothingWaiting),
+            6 => Some(Refusal::NoRoom),
+            7 => Some(Refusal::AlreadyWaiting),
+            8 => Some(Refusal::CountUsedUp),
+            9 => Some(Refusal::TableFull),
+            10 => Some(Refusal::BadIdentity),
+            11 => Some(Refusal::EvenKey),
+            12 => Some(Refusal::Malformed),
+            13 => Some(Refusal::Illegal),
+            _ => None,
+        }
+    }
 }

@@ -35,8 +35,6 @@ use Rattle.sight.specs.declared.aims.Act.{Act}
 use Rattle.sight.specs.declared.aims.Act.TheVariants.{Receive, BuildKsm, BuildRsi, GiveUp, Remove, Ask, Load}
 use Rattle.sight.specs.declared.aims.Aim.{Aim}
 use Rattle.sight.specs.declared.Sight.{Sight}
-use Rattle.calls.specs.declared.Refusal.TheVariants.{ForAnother}
-use Rattle.sight.specs.Sight.{entry_in}
 use Rattle.sight.specs.Aim.{at_partner, of_reading, aim_of}
 use Rattle.sight.specs.Aim as aims
 use Rattle.sight.specs.Asked.{call_of}
@@ -66,7 +64,7 @@ unfolding of_reading
 by_text own None = refl
 by_text own (Some r) = go (not (same r.rcv own))
   where
-    go : (b : Bool) → (cond b (aims.refused own ForAnother) (at_partner own r.org)).vacant ≡ false
+    go : (b : Bool) → (cond b (aims.refused own 2) (at_partner own r.org)).vacant ≡ false
     go true = refl
     go false = refl
 
@@ -130,7 +128,7 @@ module _ (q : Act) (image who text : Text) (room : ℕ) where
           ⊎_elim (λ e. absurd (true≢false (sym empty_is ∙ ap is_empty (sym e) ∙ old_full h))) (λ w. w.0)
           (stored_at t.slots (decoded image t d).stored (place s))
 
-      entry_is : entry_in s.slot ≡ get_or t.slots (place s) empty
+      entry_is : s.entry ≡ get_or t.slots (place s) empty
       unfolding table_in
       entry_is = seen_entry image t d a (aim_named q (ours image) who text)
 

@@ -2,12 +2,14 @@
 use Rattle.std.specs.Prelude.{Option, None, Some, Result, Ok, Err}
 use mathlib.Core.Path.{◌≡◌, refl, sym, ap, ◌∙◌, subst}
 use mathlib.Core.Bool.{Bool, true, false, cond, not}
+use Rattle.std.specs.Bool.{then_some}
 use Rattle.std.specs.Option.{ok_or}
 use mathlib.Core.List.{List, []}
 use Prim.Native.Nat.{ℕ}
 use lib.Dec.{ltb}
 use native.Mathlib.Omega.{arith}
 use lib.ListN.{length, drop, get_or}
+use borrow.Author.Tests.{ltb-false}
 use Rattle.octets.specs.Text.{Text}
 use Rattle.octets.specs.Part.{found}
 use Rattle.partner.specs.declared.Name.{Name}
@@ -30,7 +32,6 @@ use Rattle.calls.specs.declared.Refusal.TheVariants.{BadIdentity}
 use Rattle.sight.specs.declared.aims.Act.{Act}
 use Rattle.sight.specs.declared.aims.Act.TheVariants.{Load}
 use Rattle.sight.specs.declared.aims.Aim.{Aim}
-use Rattle.sight.specs.Sight.{entry_in}
 use Rattle.sight.specs.Aim.{with_room}
 use Rattle.sight.specs.Asked.{call_of}
 use Rattle.turn.specs.Way.{load, turn}
@@ -57,18 +58,18 @@ told_refused r = refl
 
 module _ (a : Aim) (image : Text) (q : Act) (text : Text) (room : ℕ) (f : Result ℕ Refusal) (e : Finds a image q text room f) where
   -- refused before the turn
-  pub way_kept : (r : Refusal) → f ≡ Err r → turn_in a image q text room ≡ refused (entry_in (seen a image).slot) (number r)
+  pub way_kept : (r : Refusal) → f ≡ Err r → turn_in a image q text room ≡ refused (seen a image).entry (number r)
   way_kept r h =
       way_refused (ours image) a (seen a image) q text room (number r) (sym (ap answer_of h) ∙ e.answer) (number_not_0 r)
 
   -- turned
   pub way_went : (k : ℕ) → f ≡ Ok k
-      → turn_in a image q text room ≡ turn (ours image) a.partner (entry_in (seen a image).slot) q text room
+      → turn_in a image q text room ≡ turn (ours image) a.partner (seen a image).entry q text room
   way_went k h = way_turned (ours image) a (seen a image) q text room 0 (sym (ap answer_of h) ∙ e.answer) refl
 
   -- the entry that is turned is that of the slot
   pub entry_is : (k : ℕ) → f ≡ Ok k → (x : Entry) → x ≡ get_or (slots_in 64 (drop front_size image)) k empty
-      → x ≡ entry_in (seen a image).slot
+      → x ≡ (seen a image).entry
   unfolding seen
   entry_is k p x h = h ∙ ap (λ (i : ℕ). get_or slots i empty) (e.slot k p) ∙ by_image (found (decode image))
     where
@@ -78,14 +79,13 @@ module _ (a : Aim) (image : Text) (q : Act) (text : Text) (room : ℕ) (f : Resu
       past : get_or slots 64 empty ≡ empty
       past = sym (past_64 64 (drop front_size image) (omega arith))
 
-      by_slot : (b : Bool) → get_or slots (place_in (cond b (Some (record { at = sought a image; entry = get_or slots (sought a image) empty })) None)) empty
-          ≡ entry_in (cond b (Some (record { at = sought a image; entry = get_or slots (sought a image) empty })) None)
-      by_slot true = refl
-      by_slot false = past
+      by_slot : (b : Bool) → ltb (sought a image) 64 ≡ b
+          → get_or slots (place_in (then_some b (sought a image))) empty ≡ get_or slots (sought a image) empty
+      by_slot true h = refl
+      by_slot false h = past ∙ past_64 (sought a image) (drop front_size image) (ltb-false (sought a image) 64 h)
 
-      by_image : (b : Bool)
-          → get_or slots (place (cond (not b) blind (sighted a image))) empty ≡ entry_in (cond (not b) blind (sighted a image)).slot
-      by_image true = by_slot (ltb (sought a image) 64)
+      by_image : (b : Bool) → get_or slots (place (cond (not b) blind (sighted a image))) empty ≡ (cond (not b) blind (sighted a image)).entry
+      by_image true = by_slot (ltb (sought a image) 64) refl
       by_image false = past
 
 -- found by the call's own aim
@@ -111,7 +111,7 @@ module _ (q : Act) (image who text buffer : Text) (a : Aim) (i : a ≡ aim q ima
 
   -- a refusal before the turn
   module _ (r : Refusal) (h : f ≡ Err r) where
-    kept_so : u ≡ refused (entry_in (seen b image).slot) (number r)
+    kept_so : u ≡ refused (seen b image).entry (number r)
     kept_so = way_kept b image q text room f g r h
 
     pub turns_kept : Turns q image who text buffer (report_of (Err r)) buffer
@@ -204,7 +204,7 @@ refused_end o s buffer a image q text f j e r h =
 module _ (a : Aim) (image : Text) (top : Top) (name : Text) (room : ℕ) (f : Result ℕ Refusal)
     (e : Finds a image (Load top) name room f) (k : ℕ) (h : f ≡ Ok k) where
   abbrev old : Entry
-  old = entry_in (seen a image).slot
+  old = (seen a image).entry
 
   loads_so : turn_in a image (Load top) name room ≡ load a.partner old name top
   unfolding turn

@@ -19,7 +19,6 @@ use Rattle.sight.specs.declared.aims.Act.{Act}
 use Rattle.sight.specs.declared.aims.Act.TheVariants.{Receive, BuildKsm, BuildRsi, GiveUp, Remove, Ask, Load}
 use Rattle.sight.specs.declared.aims.Aim.{Aim}
 use Rattle.sight.specs.declared.Sight.{Sight}
-use Rattle.sight.specs.Sight.{entry_in}
 use Rattle.request.specs.Request.{request_in}
 use Rattle.sight.specs.Asked.{call_of}
 use Rattle.turn.specs.Way.{refusal, turn, take}
@@ -59,13 +58,13 @@ module _ (own : Text) (named : is_name own ≡ true) (e : Entry) (lawful : partn
 
 -- a refusal leaves it as it was
 pub take_lawful : (own : Text) (a : Aim) (s : Sight) (q : Act) (text who : Text) (room : ℕ) → is_name own ≡ true
-    → partner.legal (entry_in s.slot) ≡ true → InPlace (call_of q room who text)
+    → partner.legal s.entry ≡ true → InPlace (call_of q room who text)
     → partner.legal (take own a s q text room).entry ≡ true
 unfolding take
 take_lawful own a s q text who room n l p = go (eqb (refusal a s q text room) 0)
   where
     go : (b : Bool)
-        → Lawful (cond b (turn own a.partner (entry_in s.slot) q text room)
-        (refused (entry_in s.slot) (refusal a s q text room)))
-    go true = turn_lawful own n (entry_in s.slot) l q a.partner text who room p
+        → Lawful (cond b (turn own a.partner s.entry q text room)
+        (refused s.entry (refusal a s q text room)))
+    go true = turn_lawful own n s.entry l q a.partner text who room p
     go false = l

@@ -5,6 +5,7 @@ pub mod Delivering
 pub mod Staying
 pub mod Lasting
 pub mod Seeing
+pub mod Listed
 pub mod Lookups
 pub mod Calling
 pub mod Whole

@@ -1,13 +1,12 @@
 -- What the look-up of a slot answers.
 use Rattle.std.proofs.Common.{◌≡◌, refl, sym, ap, ◌∙◌, Bool, true, false, not, cond, ℕ, arith}
-use Rattle.std.specs.Prelude.{Option, None, Some, Err, is_some, ltb, drop, get_or}
+use Rattle.std.specs.Prelude.{Option, None, Some, Err, is_some, ltb}
 use Rattle.std.specs.Bool.{then_some}
 use Rattle.std.specs.Option.{ok_or}
 use Rattle.octets.specs.Text.{Text}
 use Rattle.octets.specs.Part.{found}
 use Rattle.octets.specs.First.{first}
-use Rattle.partner.specs.Entry.{empty}
-use Rattle.image.specs.Image.{front_size, decode, slots_in}
+use Rattle.image.specs.Image.{decode}
 use Rattle.image.specs.Places.{below, free_slot}
 use Rattle.calls.specs.declared.Refusal.{Refusal}
 use Rattle.calls.specs.declared.Refusal.TheVariants.{Illegal, NoPartner}
@@ -15,7 +14,6 @@ use Rattle.calls.specs.Refusal.{number}
 use Rattle.sight.specs.declared.aims.Act.{Act}
 use Rattle.sight.specs.declared.aims.Act.TheVariants.{Receive, BuildKsm, BuildRsi, GiveUp, Remove, Ask, Load}
 use Rattle.sight.specs.declared.aims.Aim.{Aim}
-use Rattle.sight.specs.declared.Slot.{Slot}
 use Rattle.sight.specs.declared.Glance.{Glance}
 use Rattle.turn.specs.Way.{order, glance, refusal}
 use Rattle.turn.proofs.Answers.{gives_13}
@@ -58,13 +56,6 @@ module _ (a : Aim) (image : Text) (q : Act) (text : Text) (room : ℕ) where
         go true = refl
         go false = refl
 
-    abbrev here : Slot
-    here = record { at = sought a image; entry = get_or (slots_in 64 (drop front_size image)) (sought a image) empty }
-
-    there_is : (b : Bool) (s : Slot) → is_some (cond b (Some s) None) ≡ b
-    there_is true s = refl
-    there_is false s = refl
-
     module _ (t o : Option ℕ) (p : t ≡ below 64 (theirs a image)) (e : o ≡ cond a.vacant (below 64 (free_slot image)) t)
         (taken there : Bool) (u : taken ≡ is_some t) (v : there ≡ is_some o) where
       abbrev g : Glance
@@ -78,7 +69,7 @@ module _ (a : Aim) (image : Text) (q : Act) (text : Text) (room : ℕ) where
           (λ j. record {
             legal = true;
             taken = (u ∙ ap is_some p ∙ some_if (ltb (theirs a image) 64) (theirs a image)) j;
-            there = (v ∙ ap is_some o_is ∙ some_if (ltb (sought a image) 64) (sought a image) ∙ sym (there_is (ltb (sought a image) 64) here)) j;
+            there = (v ∙ ap is_some o_is) j;
           })
           ∙ sym (ap glance seen_so)
 
@@ -91,12 +82,7 @@ module _ (a : Aim) (image : Text) (q : Act) (text : Text) (room : ℕ) where
       finds_refusal r k = record { answer = k ∙ answer_so; slot = λ n z. cc }
 
       place_so : (k : ℕ) → o ≡ Some k → k ≡ place (seen a image)
-      place_so k z = go (ltb (sought a image) 64) (sym o_is ∙ z) ∙ ap place (sym seen_so)
-        where
-          go : (b : Bool) → then_some b (sought a image) ≡ Some k
-              → k ≡ place_in (cond b (Some here) None)
-          go true w = cc
-          go false w = cc
+      place_so k z = sym (ap place seen_so ∙ ap place_in (sym o_is ∙ z))
 
       -- found
       pub finds_slot : 0 ≡ first (order a g q text room) → Finds a image q text room (ok_or o NoPartner)

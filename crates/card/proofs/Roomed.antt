@@ -24,7 +24,6 @@ use Rattle.sight.specs.declared.aims.Act.TheVariants.{Remove, Ask, Load}
 use Rattle.sight.specs.declared.aims.Aim.{Aim}
 use Rattle.sight.specs.declared.aims.Act.{Act}
 use Rattle.sight.specs.declared.Sight.{Sight}
-use Rattle.sight.specs.Sight.{entry_in}
 use Rattle.sight.specs.Aim.{at_free_slot, with_room, aim_of}
 use Rattle.turn.specs.Way.{take}
 use Rattle.turn.proofs.Ways.{way_roomed}
@@ -54,8 +53,8 @@ module _ (q : Act) (image who text : Text) (asks room : ℕ) where
   same_seen = refl
 
   roomed : (s : Sight) → seen a image ≡ s
-      → u ≡ cond (not s.legal) (refused (entry_in s.slot) 13)
-      (cond (ltb room asks) (refused (entry_in s.slot) 6) (take (ours image) (with_room a 0) s q text room))
+      → u ≡ cond (not s.legal) (refused s.entry 13)
+      (cond (ltb room asks) (refused s.entry 6) (take (ours image) (with_room a 0) s q text room))
   roomed s e =
       ap (λ (x : Sight). take (ours image) (with_room a asks) x q text room) (same_seen ∙ e)
       ∙ way_roomed (ours image) a s q text asks room
@@ -71,19 +70,19 @@ module _ (q : Act) (image who text : Text) (asks room : ℕ) where
     no_room : room < asks → u.outcome ≡ refusal 6
     no_room h =
         ap (λ (r : Turn). r.outcome) (roomed (seen a image) refl)
-        ∙ ap (λ (b : Bool). (cond (not b) (refused (entry_in (seen a image).slot) 13)
-        (cond (ltb room asks) (refused (entry_in (seen a image).slot) 6) (take (ours image) (with_room a 0) (seen a image) q text room))).outcome)
+        ∙ ap (λ (b : Bool). (cond (not b) (refused (seen a image).entry 13)
+        (cond (ltb room asks) (refused (seen a image).entry 6) (take (ours image) (with_room a 0) (seen a image) q text room))).outcome)
         lawful_sight
-        ∙ ap (λ (b : Bool). (cond b (refused (entry_in (seen a image).slot) 6) (take (ours image) (with_room a 0) (seen a image) q text room)).outcome)
+        ∙ ap (λ (b : Bool). (cond b (refused (seen a image).entry 6) (take (ours image) (with_room a 0) (seen a image) q text room)).outcome)
         (lt-ltb room asks h)
 
     with_enough : asks ≤ room → with_room a 0 ≡ a → u ≡ turn_in a image q text room
     with_enough h z =
         roomed (seen a image) refl
-        ∙ ap (λ (b : Bool). cond (not b) (refused (entry_in (seen a image).slot) 13)
-        (cond (ltb room asks) (refused (entry_in (seen a image).slot) 6) (take (ours image) (with_room a 0) (seen a image) q text room)))
+        ∙ ap (λ (b : Bool). cond (not b) (refused (seen a image).entry 13)
+        (cond (ltb room asks) (refused (seen a image).entry 6) (take (ours image) (with_room a 0) (seen a image) q text room)))
         lawful_sight
-        ∙ ap (λ (b : Bool). cond b (refused (entry_in (seen a image).slot) 6) (take (ours image) (with_room a 0) (seen a image) q text room))
+        ∙ ap (λ (b : Bool). cond b (refused (seen a image).entry 6) (take (ours image) (with_room a 0) (seen a image) q text room))
         (le-ltb room asks h)
         ∙ ap (λ (x : Aim). take (ours image) x (seen a image) q text room) z
 

@@ -9,7 +9,7 @@ use native.Mathlib.Omega.{arith}
 use lib.Dec.{ltb}
 use lib.ListN.{length, drop, get_or, set}
 use lib.Seq.{get_or-set_same, set_out}
-use borrow.Author.Tests.{lt-ltb, le-ltb, ltb-false}
+use borrow.Author.Tests.{lt-ltb, le-ltb}
 use Rattle.octets.specs.Text.{Text, same, is_name}
 use Rattle.octets.specs.Part.{bare, found}
 use Rattle.csm.specs.Message.{Reading, read}
@@ -21,25 +21,22 @@ use Rattle.partner.specs.Legal as partner
 use Rattle.partner.proofs.Claims as entries
 use Rattle.partner.specs.Table.{Table, legal, is_empty, find, put}
 use Rattle.image.specs.Image.{decode, slots_in}
-use Rattle.image.specs.Places.{slot_of, free_slot}
+use Rattle.image.specs.Places.{below, slot_of, free_slot}
 use Rattle.image.proofs.Entries.{empty_is}
-use Rattle.image.proofs.Standing.{past_64}
 use Rattle.image.proofs.Images.{rules}
 use Rattle.image.proofs.Numbered.{slots_are, slot_found, slot_missed, free_found, free_missed}
 use Rattle.calls.proofs.Tables.{legal_parts, own_name}
 use Rattle.sight.specs.declared.aims.Act.{Act}
 use Rattle.sight.specs.declared.aims.Act.TheVariants.{Receive, BuildKsm, BuildRsi, GiveUp, Remove, Ask, Load}
 use Rattle.sight.specs.declared.aims.Aim.{Aim}
-use Rattle.calls.specs.declared.Refusal.TheVariants.{ForAnother}
-use Rattle.sight.specs.declared.Slot.{Slot}
 use Rattle.sight.specs.declared.Sight.{Sight}
 use Rattle.sight.specs.Aim.{identity, at_partner, refused, of_reading, aim_of}
-use Rattle.sight.specs.Sight.{is_of, is_theirs, is_sought, entry_in as entry_of, put_in as put_seen}
+use Rattle.sight.specs.Sight.{is_of, is_theirs, is_sought, put_in as put_seen}
 use Rattle.sight.specs.Table.{table}
 use Rattle.sight.proofs.Rows.{putting, putting_first}
 use Rattle.sight.proofs.Finding.{first_same, first_none, first_find, putting_same, putting_put, none_free, one_free}
 use Rattle.sight.proofs.Sees.{any_theirs, Sees}
-use Rattle.card.specs.Ways.{slot_named, theirs, sought, blind, slot_seen, sighted, seen, place_in, place}
+use Rattle.card.specs.Ways.{slot_named, theirs, sought, blind, sighted, seen, place_in, place}
 use Rattle.card.proofs.Tables.{lawful_table}
 
 -- ---- the partner whom a call is about has an identity that is filled
@@ -62,7 +59,7 @@ unfolding of_reading
 by_text own None = nobody_named
 by_text own (Some r) = go (not (same r.rcv own))
   where
-    go : (b : Bool) → Named (cond b (refused own ForAnother) (at_partner own r.org)).partner
+    go : (b : Bool) → Named (cond b (refused own 2) (at_partner own r.org)).partner
     go true = nobody_named
     go false = identity_named r.org
 
@@ -221,25 +218,21 @@ module _ (image : Text) (t : Table) (d : decode image ≡ Some t) (a : Aim) wher
         go (Some e) q = (partner_hit n (named n h) e q).0 ∙ ap found (sym q)
 
     -- where it is seen
-    slot_at : ltb (sought a image) 64 ≡ true
-        → slot_seen (sought a image) image ≡ Some (record { at = sought a image; entry = get_or (slots_in 64 (drop 17 image)) (sought a image) empty })
+    slot_at : ltb (sought a image) 64 ≡ true → below 64 (sought a image) ≡ Some (sought a image)
     slot_at h = rw h
 
-    slot_none : ltb (sought a image) 64 ≡ false → slot_seen (sought a image) image ≡ None
+    slot_none : ltb (sought a image) 64 ≡ false → below 64 (sought a image) ≡ None
     slot_none h = rw h
 
     found_seen : (e : Entry) → first (is_sought a) slots ≡ Some e
-        → (is_some (slot_seen (sought a image) image) ≡ true) × (entry_of (slot_seen (sought a image) image) ≡ e)
-        × ((x : Entry) → put_seen (slot_seen (sought a image) image) x slots ≡ putting (is_sought a) x slots)
+        → (is_some (below 64 (sought a image)) ≡ true) × (get_or (slots_in 64 (drop 17 image)) (sought a image) empty ≡ e)
+        × ((x : Entry) → put_seen (below 64 (sought a image)) x slots ≡ putting (is_sought a) x slots)
     found_seen e h =
         let r = found_so a.vacant a.partner refl refl e h in
-        let k = slot_at r.0 in (
-          ap is_some k,
-          ap entry_of k ∙ entry_in (sought a image) ∙ r.1.0,
-          λ x. ap (λ (o : Option Slot). put_seen o x slots) k ∙ r.1.1 x,
-        )
+        let k = slot_at r.0 in
+        (ap is_some k, entry_in (sought a image) ∙ r.1.0, λ x. ap (λ (o : Option ℕ). put_seen o x slots) k ∙ r.1.1 x)
 
-    missed_seen : first (is_sought a) slots ≡ None → slot_seen (sought a image) image ≡ None
+    missed_seen : first (is_sought a) slots ≡ None → below 64 (sought a image) ≡ None
     missed_seen h = slot_none (missed_so (sought a image) (missed_at a.vacant a.partner refl refl h)).0
 
     pub sees : Sees (bare t.own) slots a (seen a image)
@@ -255,28 +248,22 @@ module _ (image : Text) (t : Table) (d : decode image ≡ Some t) (a : Aim) wher
     pub place_is : place (seen a image) ≡ sought a image
     place_is = ap place seen_is ∙ go (first (is_sought a) slots) refl
       where
-        go : (o : Option Entry) → first (is_sought a) slots ≡ o → place_in (slot_seen (sought a image) image) ≡ sought a image
+        go : (o : Option Entry) → first (is_sought a) slots ≡ o → place_in (below 64 (sought a image)) ≡ sought a image
         go None h = ap place_in (missed_seen h) ∙ sym (missed_at a.vacant a.partner refl refl h)
         go (Some e) h = ap place_in (slot_at (found_so a.vacant a.partner refl refl e h).0)
 
     -- its entry
-    pub seen_entry : entry_of (seen a image).slot ≡ get_or slots (place (seen a image)) empty
+    pub seen_entry : (seen a image).entry ≡ get_or slots (place (seen a image)) empty
     seen_entry =
-        ap (λ (x : Sight). entry_of x.slot) seen_is ∙ go (ltb (sought a image) 64) refl
-        ∙ ap (λ (k : ℕ). get_or slots k empty) (sym place_is)
-      where
-        go : (b : Bool) → ltb (sought a image) 64 ≡ b → entry_of (slot_seen (sought a image) image) ≡ get_or slots (sought a image) empty
-        go true h = ap entry_of (slot_at h) ∙ entry_in (sought a image)
-        go false h =
-            ap entry_of (slot_none h) ∙ past_64 (sought a image) (drop 17 image) (ltb-false (sought a image) 64 h) ∙ entry_in (sought a image)
+        ap (λ (x : Sight). x.entry) seen_is ∙ entry_in (sought a image) ∙ ap (λ (k : ℕ). get_or slots k empty) (sym place_is)
 
     -- put there, at its number
     pub put_at : (x : Entry) → put_seen (seen a image).slot x slots ≡ set slots (place (seen a image)) x
     put_at x = go (seen a image).slot
       where
-        go : (o : Option Slot) → put_seen o x slots ≡ set slots (place_in o) x
+        go : (o : Option ℕ) → put_seen o x slots ≡ set slots (place_in o) x
         go None = let n = slots_64 in sym (set_out slots 64 x (omega arith))
-        go (Some p) = refl
+        go (Some k) = refl
 
     -- ---- what stands in a slot that was found
 

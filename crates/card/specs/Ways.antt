@@ -1,6 +1,6 @@
 -- The way of a call over the image's bytes, as the code takes it: what is seen of the image, the turn of the entry, the
 -- entry put back. On the image of a table it is the way over that table (proofs/Calling.antt); no public contract cites it.
-use Rattle.std.specs.Prelude.{◌≡◌, Bool, true, false, cond, not, ◌||◌, [], ℕ, eqb, ltb, length, drop, get_or, Option, None, Some}
+use Rattle.std.specs.Prelude.{◌≡◌, Bool, true, false, cond, not, ◌||◌, [], ℕ, eqb, ltb, length, drop, get_or, Option, None, Some, is_some}
 use Rattle.std.specs.Prelude.{unwrap_or, Result, Ok, Err}
 use Rattle.octets.specs.Text.{Text}
 use Rattle.octets.specs.Part.{bare, found}
@@ -9,16 +9,15 @@ use Rattle.keying.specs.declared.Top.TheVariants.{Single}
 use Rattle.partner.specs.declared.Name.{Name}
 use Rattle.partner.specs.Entry.{empty}
 use Rattle.image.specs.Image.{front_size, decode, slots_in}
-use Rattle.image.specs.Places.{own_in, slot_of, free_slot}
+use Rattle.image.specs.Places.{below, own_in, slot_of, free_slot}
 use Rattle.image.specs.Results.{put_slot}
 use Rattle.calls.specs.declared.Refusal.{Refusal}
-use Rattle.calls.specs.Refusal.{number, answer_of}
+use Rattle.calls.specs.Refusal.{number, answer_of, numbered}
 use Rattle.calls.specs.Outcome.{Turn}
 use Rattle.outcome.specs.declared.Report.{Report}
 use Rattle.outcome.specs.Report.{report, replied, plain}
 use Rattle.sight.specs.declared.aims.Act.{Act}
 use Rattle.sight.specs.declared.aims.Aim.{Aim}
-use Rattle.sight.specs.declared.Slot.{Slot}
 use Rattle.sight.specs.declared.Sight.{Sight}
 use Rattle.sight.specs.Aim.{aim_of}
 use Rattle.turn.specs.Way.{refusal, take}
@@ -49,27 +48,32 @@ sought a image = cond a.vacant (free_slot image) (theirs a image)
 
 -- of what is no legal image nothing
 abbrev pub blind : Sight
-blind = record { legal = false; taken = false; slot = None }
-
-abbrev pub slot_seen : ℕ → Text → Option Slot
-slot_seen k image =
-    cond (ltb k 64) (Some (record { at = k; entry = get_or (slots_in 64 (drop front_size image)) k empty })) None
+blind = record { legal = false; taken = false; slot = None; entry = empty }
 
 abbrev pub sighted : Aim → Text → Sight
-sighted a image = record { legal = true; taken = ltb (theirs a image) 64; slot = slot_seen (sought a image) image }
+sighted a image = record {
+  legal = true;
+  taken = ltb (theirs a image) 64;
+  slot = below 64 (sought a image);
+  entry = get_or (slots_in 64 (drop front_size image)) (sought a image) empty;
+}
 
 unfoldable pub seen : Aim → Text → Sight
 seen a image = cond (not (found (decode image))) blind (sighted a image)
 
 -- the number of the slot that was found; 64 where there is none
-abbrev pub place_in : Option Slot → ℕ
+abbrev pub place_in : Option ℕ → ℕ
 place_in None = 64
-place_in (Some p) = p.at
+place_in (Some k) = k
 
 abbrev pub place : Sight → ℕ
 place s = place_in s.slot
 
 -- ---- the turn, and the entry put back
+
+-- 0, or the number of a refusal
+abbrev pub Listed : ℕ → Type 0
+Listed n = eqb n 0 || is_some (numbered n) ≡ true
 
 -- the refusal that comes before the turn, or the number of the slot
 pub record Finds (a : Aim) (image : Text) (q : Act) (text : Text) (room : ℕ) (found : Result ℕ Refusal) : Type 0 where

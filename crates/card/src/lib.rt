@@ -29,8 +29,10 @@ fn aim(image: &[u8], who: &[u8], act: Act, text: &[u8]) -> Aim
     act.aim(octets::bare(image::own_identity(image)), who, text)
 }
 
-// The slot that is sought is looked up; of what is no legal image nothing is seen.
+// The slot that is sought is looked up; of what is no legal image nothing is seen. The answer that the aim has is 0 or the
+// number of a refusal, as it is of every call.
 fn find(image: &[u8], aim: &Aim, act: Act, text: &[u8], room: usize) -> Result<usize, Refusal>
+    requires { ways.Listed aim.now.answer }
     ensures { ways.Finds aim.now image.now act text.now room result }
 {
     if !image::legal(image) {
@@ -43,8 +45,10 @@ fn find(image: &[u8], aim: &Aim, act: Act, text: &[u8], room: usize) -> Result<u
         taken: theirs.is_some(),
         there: slot.is_some(),
     };
-    turn::refusal(aim, glance, act, text, room)?;
-    slot.ok_or(Refusal::NoPartner)
+    match Refusal::numbered(turn::refusal(aim, glance, act, text, room)) {
+        Some(refusal) => Err(refusal),
+        None => slot.ok_or(Refusal::NoPartner),
+    }
 }
 
 // The entry that was found is turned and put back. Always inlined, so that each call has room for its own act alone.

@@ -14,6 +14,9 @@ use Rattle.outcome.proofs as fn
 pub report_of : OneOutcome contract.report_of.ended fn.report_of.Reads.Post
 report_of κs a x y v w p q = (alike p q, refl)
 
+pub refusal : OneOutcome contract.refusal.ended fn.refusal.Reads.Post
+refusal κs a x y v w p q = (alike p q, refl)
+
 pub told_service : OneOutcome contract.told_service.ended fn.told_service.Reads.Post
 told_service κs a x y v w p q = (alike p q, refl)
 

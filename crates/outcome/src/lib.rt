@@ -4,6 +4,7 @@
 ghost use Rattle.std.specs.Prelude.{◌≡◌, true, false, IfOk, IfErr};
 ghost use Rattle.calls.specs.declared.Refusal.TheVariants.{Illegal};
 ghost use Rattle.outcome.specs.declared.Told.TheVariants.{Service, Keys, Confirmation, Failure};
+ghost use Rattle.calls.specs.Outcome as outcomes;
 ghost use Rattle.outcome.specs.Report as report;
 ghost use Rattle.outcome.specs.Acts as acts;
 
@@ -129,6 +130,14 @@ fn told_failure(length: usize, letters: u64) -> Report
         class: ESM,
         ..plain(0, letters, length)
     }
+}
+
+// The flat report of a refusal by its number: every other part is zero or empty.
+#[tactic(auto, unfolding(crate::specs::Report::report))]
+pub fn refusal(answer: u32) -> Report
+    ensures { result ≡ report.report (outcomes.refusal answer) }
+{
+    plain(answer, 0, 0)
 }
 
 // The flat report of what a call gives. Of a refusal every other part is zero or empty.

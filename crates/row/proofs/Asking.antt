@@ -12,12 +12,11 @@ use Rattle.calls.specs.Words.{in_case◌then◌else◌}
 use Rattle.calls.specs.Calls.{entry_of}
 use Rattle.calls.proofs.Tests.{if_true, if_false}
 use Rattle.sight.specs.declared.aims.Aim.{Aim}
-use Rattle.sight.specs.declared.Slot.{Slot}
 use Rattle.sight.specs.declared.Sight.{Sight}
 use Rattle.sight.specs.Aim.{at_partner}
 use Rattle.sight.specs.Table.{table, row_legal}
 use Rattle.sight.specs.Sight.{survey, shown_at, shown}
-use Rattle.sight.proofs.Rows.{index, slot_at, survey_legal, survey_found, survey_missed}
+use Rattle.sight.proofs.Rows.{index, survey_legal, survey_found, survey_missed}
 use Rattle.sight.proofs.Finding.{first_named, first_unnamed, index_named}
 use Rattle.row.specs.Calls.{slot_of, not_shown, shown_of, asked}
 
@@ -35,9 +34,9 @@ shown_3 : (s : Sight) → s.legal ≡ true → s.slot ≡ None → shown s ≡ n
 unfolding shown
 shown_3 s l h = rw (l, h)
 
-shown_0 : (s : Sight) (p : Slot) → s.legal ≡ true → s.slot ≡ Some p → shown s ≡ shown_at 0 p.at p.entry
+shown_0 : (s : Sight) (at : ℕ) (e : Entry) → s.legal ≡ true → s.slot ≡ Some at → s.entry ≡ e → shown s ≡ shown_at 0 at e
 unfolding shown
-shown_0 s p l h = rw (l, h)
+shown_0 s at e l h k = rw (l, h, k)
 
 -- an entry asked for
 pub asked_is : (own : Text) (slots : List Entry) (id : Text) → shown (survey (at_partner own id) slots) ≡ asked own slots id
@@ -57,7 +56,8 @@ asked_is own slots id = by_table (is_name own && legal (table own slots)) refl
         → shown s ≡ shown_of (slot_of (filled id) slots) o
     by_entry l n None h = shown_3 s l (survey_missed a slots (first_named a id refl refl slots n ∙ h))
     by_entry l n (Some e) h =
-        shown_0 s (slot_at _ e) l (survey_found a slots e (first_named a id refl refl slots n ∙ h))
+        let k = survey_found a slots e (first_named a id refl refl slots n ∙ h) in
+        shown_0 s _ e l k.0 k.1
         ∙ ap (λ (i : ℕ). shown_at 0 i e) (index_named a id refl refl slots n ∙ index_slot (filled id) slots)
 
     by_name : s.legal ≡ true → (b : Bool) → is_name id ≡ b

@@ -73,29 +73,8 @@ pub fn ask(row: &[Entry], own: &[u8], partner: &[u8]) -> Found
     survey(row, &Aim::at_partner(own, partner)).shown()
 }
 
-// Whom a call is about, what is seen of the row, the turn of one entry, and it put back in its slot.
-fn turned(
-    row: &mut [Entry],
-    own: &[u8],
-    who: &[u8],
-    act: Act,
-    text: &[u8],
-    reply: &mut [u8],
-) -> Result<Given, Refusal>
-    ensures { given.Called own.now row.old
-        (call_of act (length reply.old) who.now text.now)
-        reply.old (report_of result) row.new reply.new }
-{
-    let aim = act.aim(own, who, text);
-    let seen = survey(row, &aim);
-    let turned = turn::take(own, &aim, &seen, act, text, reply)?;
-    if let Some(slot) = seen.slot {
-        replace(row, slot.at, turned.entry);
-    }
-    Ok(turned.given)
-}
-
-// Every call that turns an entry.
+// Every call that turns an entry: whom it is about, what is seen of the row, the turn of one entry, and it put back in its
+// slot.
 pub fn call(
     row: &mut [Entry],
     own: &[u8],
@@ -108,7 +87,13 @@ pub fn call(
         (call_of act (length reply.old) who.now text.now)
         reply.old result row.new reply.new }
 {
-    outcome::report_of(turned(row, own, who, act, text, reply))
+    let aim = act.aim(own, who, text);
+    let seen = survey(row, &aim);
+    let (entry, report) = turn::take(own, &aim, &seen, act, text, reply);
+    if let Some(slot) = seen.slot {
+        replace(row, slot, entry);
+    }
+    report
 }
 
 // Start: 13, 10. 64 empty slots.

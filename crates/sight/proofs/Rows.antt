@@ -11,7 +11,6 @@ use Rattle.partner.specs.Legal as partner
 use Rattle.partner.proofs.Claims.{claims}
 use Rattle.partner.specs.Table.{is_empty, slots_legal, identities, differs, apart, legal}
 use Rattle.sight.specs.declared.aims.Aim.{Aim}
-use Rattle.sight.specs.declared.Slot.{Slot}
 use Rattle.sight.specs.declared.Sight.{Sight}
 use Rattle.sight.specs.Sight.{slot_legal, is_sought, sought_at, unseen, see, pass, concluded, survey}
 use Rattle.sight.specs.Aim.{ours}
@@ -118,28 +117,28 @@ putting_first f (x ∷ l) e h = go (f x) h (putting_first f l e)
 
 -- ---- the first slot that is sought
 
-abbrev pub slot_at : ℕ → Entry → Slot
-slot_at at e = record { at = at; entry = e }
-
 further : (at i : ℕ) → (at + 1) + i ≡ at + suc i
 further at i = omega arith
 
 module _ (a : Aim) where
   -- found before, it stays
-  stays : (s : Sight) (at : ℕ) (slots : List Entry) (p : Slot) → s.slot ≡ Some p → (pass a s at slots).slot ≡ Some p
+  stays : (s : Sight) (at : ℕ) (slots : List Entry) (p : ℕ) → s.slot ≡ Some p
+      → ((pass a s at slots).slot ≡ Some p) × ((pass a s at slots).entry ≡ s.entry)
   unfolding pass see
-  stays s at [] p h = h
+  stays s at [] p h = (h, refl)
   stays s at (e ∷ slots) p h =
-      stays (see a s at e (differs e.identity.bytes (identities slots))) (at + 1) slots p (rw h)
+      let k = stays (see a s at e (differs e.identity.bytes (identities slots))) (at + 1) slots p (rw h) in
+      (k.0, k.1 ∙ rw h)
 
   -- not found before: where it is this one
-  here : (s : Sight) (at : ℕ) (e : Entry) (d : Bool) → s.slot ≡ None → (see a s at e d).slot ≡ sought_at a at e
+  here : (s : Sight) (at : ℕ) (e : Entry) (d : Bool) → s.slot ≡ None
+      → ((see a s at e d).slot ≡ sought_at a at e) × ((see a s at e d).entry ≡ cond (is_sought a e) e s.entry)
   unfolding see
-  here s at e d n = rw n
+  here s at e d n = (rw n, rw n)
 
   -- the first is found
   hits : (s : Sight) (at : ℕ) (slots : List Entry) (e : Entry) → s.slot ≡ None → first (is_sought a) slots ≡ Some e
-      → (pass a s at slots).slot ≡ Some (slot_at (at + index (is_sought a) slots) e)
+      → ((pass a s at slots).slot ≡ Some (at + index (is_sought a) slots)) × ((pass a s at slots).entry ≡ e)
   unfolding pass
   hits s at [] e n h = cc
   hits s at (f ∷ slots) e n h =
@@ -149,15 +148,21 @@ module _ (a : Aim) where
       then_seen : Sight
       then_seen = see a s at f (differs f.identity.bytes (identities slots))
 
+      after : Sight
+      after = pass a then_seen (at + 1) slots
+
       go : (b : Bool) → is_sought a f ≡ b → cond b (Some f) (first (is_sought a) slots) ≡ Some e
-          → then_seen.slot ≡ sought_at a at f
+          → (then_seen.slot ≡ sought_at a at f) × (then_seen.entry ≡ cond (is_sought a f) f s.entry)
           → (then_seen.slot ≡ None → first (is_sought a) slots ≡ Some e
-          → (pass a then_seen (at + 1) slots).slot ≡ Some (slot_at ((at + 1) + index (is_sought a) slots) e))
-          → (pass a then_seen (at + 1) slots).slot ≡ Some (slot_at (at + cond (is_sought a f) 0 (suc (index (is_sought a) slots))) e)
+          → (after.slot ≡ Some ((at + 1) + index (is_sought a) slots)) × (after.entry ≡ e))
+          → (after.slot ≡ Some (at + cond (is_sought a f) 0 (suc (index (is_sought a) slots)))) × (after.entry ≡ e)
       go true q h k ih =
           let p : f ≡ e = cc in
-          stays then_seen (at + 1) slots (slot_at at f) (k ∙ rw q) ∙ rw (q, p, add-zero)
-      go false q h k ih = ih (k ∙ rw q) h ∙ rw (q, further at (index (is_sought a) slots))
+          let y = stays then_seen (at + 1) slots at (k.0 ∙ rw q) in
+          (y.0 ∙ rw (q, add-zero), y.1 ∙ k.1 ∙ rw (q, p))
+      go false q h k ih =
+          let y = ih (k.0 ∙ rw q) h in
+          (y.0 ∙ rw (q, further at (index (is_sought a) slots)), y.1)
 
   -- none is found
   misses : (s : Sight) (at : ℕ) (slots : List Entry) → s.slot ≡ None → first (is_sought a) slots ≡ None
@@ -165,7 +170,7 @@ module _ (a : Aim) where
   unfolding pass
   misses s at [] n h = n
   misses s at (f ∷ slots) n h =
-      go (is_sought a f) refl h (here s at f (differs f.identity.bytes (identities slots)) n)
+      go (is_sought a f) refl h (here s at f (differs f.identity.bytes (identities slots)) n).0
       (misses (see a s at f (differs f.identity.bytes (identities slots))) (at + 1) slots)
     where
       then_seen : Sight
@@ -183,9 +188,11 @@ module _ (a : Aim) where
 module _ (a : Aim) (slots : List Entry) where
   -- found: its place and its entry
   pub survey_found : (e : Entry) → first (is_sought a) slots ≡ Some e
-      → (survey a slots).slot ≡ Some (slot_at (index (is_sought a) slots) e)
+      → ((survey a slots).slot ≡ Some (index (is_sought a) slots)) × ((survey a slots).entry ≡ e)
   unfolding survey concluded
-  survey_found e h = hits a unseen 0 slots e refl h ∙ ap (λ (i : ℕ). Some (slot_at i e)) (zero-add (index (is_sought a) slots))
+  survey_found e h =
+      let k = hits a unseen 0 slots e refl h in
+      (k.0 ∙ ap (λ (i : ℕ). Some i) (zero-add (index (is_sought a) slots)), k.1)
 
   -- new contents go there
   pub survey_puts : (e x : Entry) → first (is_sought a) slots ≡ Some e

@@ -5,7 +5,6 @@ use Rattle.std.specs.Prelude.{Option, None, Some, is_some}
 use Rattle.std.specs.List.{find as first, list_any}
 use Rattle.octets.specs.Text.{Text, same, is_name}
 use Rattle.csm.specs.Message.{Reading, read}
-use Rattle.calls.specs.declared.Refusal.TheVariants.{ForAnother}
 use Rattle.partner.specs.declared.Entry.{Entry}
 use Rattle.partner.specs.Entry.{filled}
 use Rattle.partner.specs.Table as tables
@@ -13,10 +12,9 @@ use Rattle.partner.specs.Table.{identities, differs}
 use Rattle.sight.specs.declared.aims.Act.{Act}
 use Rattle.sight.specs.declared.aims.Act.TheVariants.{Receive, BuildKsm, BuildRsi, GiveUp, Remove, Ask, Load}
 use Rattle.sight.specs.declared.aims.Aim.{Aim}
-use Rattle.sight.specs.declared.Slot.{Slot}
 use Rattle.sight.specs.declared.Sight.{Sight}
 use Rattle.sight.specs.Aim.{at_partner, refused, of_reading, aim_of}
-use Rattle.sight.specs.Sight.{is_theirs, is_sought, unseen, see, pass, concluded, survey, entry_in, put_in}
+use Rattle.sight.specs.Sight.{is_theirs, is_sought, unseen, see, pass, concluded, survey, put_in}
 use Rattle.sight.specs.Table.{table}
 use Rattle.sight.proofs.Rows.{putting, putting_first, survey_legal, survey_found, survey_puts, survey_missed}
 
@@ -29,22 +27,22 @@ any_theirs a slots = list_any (is_theirs a) slots
 pub record Sees (own : Text) (slots : List Entry) (a : Aim) (s : Sight) : Type 0 where
   pub legal : s.legal ≡ is_name own && tables.legal (table own slots)
   pub found : s.legal ≡ true → (e : Entry) → first (is_sought a) slots ≡ Some e
-      → (is_some s.slot ≡ true) × (entry_in s.slot ≡ e) × ((x : Entry) → put_in s.slot x slots ≡ putting (is_sought a) x slots)
+      → (is_some s.slot ≡ true) × (s.entry ≡ e) × ((x : Entry) → put_in s.slot x slots ≡ putting (is_sought a) x slots)
   pub missed : s.legal ≡ true → first (is_sought a) slots ≡ None → s.slot ≡ None
   pub taken : s.legal ≡ true → a.vacant ≡ true → s.taken ≡ any_theirs a slots
-  pub kept : s.legal ≡ false → put_in s.slot (entry_in s.slot) slots ≡ slots
+  pub kept : s.legal ≡ false → put_in s.slot s.entry slots ≡ slots
 
 -- what was seen, put back, changes nothing
-pub keeps : {own : Text} {slots : List Entry} {a : Aim} {s : Sight} → Sees own slots a s → put_in s.slot (entry_in s.slot) slots ≡ slots
+pub keeps : {own : Text} {slots : List Entry} {a : Aim} {s : Sight} → Sees own slots a s → put_in s.slot s.entry slots ≡ slots
 keeps {own} {slots} {a} {s} z = by_legal s.legal refl
   where
-    by_first : s.legal ≡ true → (o : Option Entry) → first (is_sought a) slots ≡ o → put_in s.slot (entry_in s.slot) slots ≡ slots
+    by_first : s.legal ≡ true → (o : Option Entry) → first (is_sought a) slots ≡ o → put_in s.slot s.entry slots ≡ slots
     by_first l None h = rw (z.missed l h)
     by_first l (Some e) h =
         let k = z.found l e h in
-        k.2 (entry_in s.slot) ∙ ap (λ (x : Entry). putting (is_sought a) x slots) k.1 ∙ putting_first (is_sought a) slots e h
+        k.2 s.entry ∙ ap (λ (x : Entry). putting (is_sought a) x slots) k.1 ∙ putting_first (is_sought a) slots e h
 
-    by_legal : (b : Bool) → s.legal ≡ b → put_in s.slot (entry_in s.slot) slots ≡ slots
+    by_legal : (b : Bool) → s.legal ≡ b → put_in s.slot s.entry slots ≡ slots
     by_legal true l = by_first l (first (is_sought a) slots) refl
     by_legal false l = z.kept l
 
@@ -64,20 +62,20 @@ module _ (a : Aim) where
 
   -- found: the slot
   hit : (slots : List Entry) (e : Entry) → first (is_sought a) slots ≡ Some e
-      → (is_some (survey a slots).slot ≡ true) × (entry_in (survey a slots).slot ≡ e)
+      → (is_some (survey a slots).slot ≡ true) × ((survey a slots).entry ≡ e)
       × ((x : Entry) → put_in (survey a slots).slot x slots ≡ putting (is_sought a) x slots)
   hit slots e h =
       let k = survey_found a slots e h in
-      (rw k, rw k, λ x. ap (λ (o : Option Slot). put_in o x slots) k ∙ survey_puts a slots e x h)
+      (rw k.0, k.1, λ x. ap (λ (o : Option ℕ). put_in o x slots) k.0 ∙ survey_puts a slots e x h)
 
-  survey_keeps : (slots : List Entry) → put_in (survey a slots).slot (entry_in (survey a slots).slot) slots ≡ slots
+  survey_keeps : (slots : List Entry) → put_in (survey a slots).slot (survey a slots).entry slots ≡ slots
   survey_keeps slots = go (first (is_sought a) slots) refl
     where
-      go : (o : Option Entry) → first (is_sought a) slots ≡ o → put_in (survey a slots).slot (entry_in (survey a slots).slot) slots ≡ slots
+      go : (o : Option Entry) → first (is_sought a) slots ≡ o → put_in (survey a slots).slot (survey a slots).entry slots ≡ slots
       go None h = rw (survey_missed a slots h)
       go (Some e) h =
           let k = hit slots e h in
-          k.2 (entry_in (survey a slots).slot) ∙ ap (λ (x : Entry). putting (is_sought a) x slots) k.1 ∙ putting_first (is_sought a) slots e h
+          k.2 (survey a slots).entry ∙ ap (λ (x : Entry). putting (is_sought a) x slots) k.1 ∙ putting_first (is_sought a) slots e h
 
 pub sees_survey : (own : Text) (slots : List Entry) (a : Aim) → a.own.bytes ≡ filled own → a.ours ≡ is_name own
     → Sees own slots a (survey a slots)
@@ -97,8 +95,8 @@ unfolding of_reading
 reading_ours own None = (refl, refl)
 reading_ours own (Some r) = go (not (same r.rcv own))
   where
-    go : (b : Bool) → ((cond b (refused own ForAnother) (at_partner own r.org)).own.bytes ≡ filled own)
-        × ((cond b (refused own ForAnother) (at_partner own r.org)).ours ≡ is_name own)
+    go : (b : Bool) → ((cond b (refused own 2) (at_partner own r.org)).own.bytes ≡ filled own)
+        × ((cond b (refused own 2) (at_partner own r.org)).ours ≡ is_name own)
     go true = (refl, refl)
     go false = (refl, refl)
 

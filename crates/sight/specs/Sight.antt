@@ -1,5 +1,5 @@
 -- What is seen of a row: one pass over its slots, which tells whether it is legal and where the slot is that is sought.
-use Rattle.std.specs.Prelude.{Bool, true, false, cond, not, ◌&&◌, ◌||◌, List, [], ◌∷◌, ℕ, ◌+◌, eqb, length, set, Option, None, Some}
+use Rattle.std.specs.Prelude.{Bool, true, false, cond, not, ◌&&◌, ◌||◌, List, [], ◌∷◌, ℕ, ◌+◌, eqb, length, set, Option, None, Some, is_some}
 use Rattle.std.specs.Option.{option_or}
 use Rattle.octets.specs.Text.{same}
 use Rattle.partner.specs.declared.Name.{Name}
@@ -8,7 +8,6 @@ use Rattle.partner.specs.Entry.{empty}
 use Rattle.partner.specs.Legal as partner
 use Rattle.partner.specs.Table.{is_empty, identities, differs}
 use Rattle.sight.specs.declared.aims.Aim.{Aim}
-use Rattle.sight.specs.declared.Slot.{Slot}
 use Rattle.sight.specs.declared.Sight.{Sight}
 use Rattle.sight.specs.declared.Found.{Found}
 
@@ -33,13 +32,13 @@ is_theirs a e = is_of a.partner e
 unfoldable pub is_sought : Aim → Entry → Bool
 is_sought a e = cond a.vacant (is_empty e) (is_theirs a e)
 
--- the slot at a place, where it is that one
-abbrev pub sought_at : Aim → ℕ → Entry → Option Slot
-sought_at a at e = cond (is_sought a e) (Some (record { at = at; entry = e })) None
+-- the number of the slot at a place, where it is that one
+abbrev pub sought_at : Aim → ℕ → Entry → Option ℕ
+sought_at a at e = cond (is_sought a e) (Some at) None
 
 -- nothing is seen yet
 abbrev pub unseen : Sight
-unseen = record { legal = true; taken = false; slot = None }
+unseen = record { legal = true; taken = false; slot = None; entry = empty }
 
 -- the slot at a place is seen: the first that is sought stays
 unfoldable pub see : Aim → Sight → ℕ → Entry → Bool → Sight
@@ -47,6 +46,7 @@ see a s at e apart = record {
   legal = s.legal && slot_legal a e apart;
   taken = s.taken || is_theirs a e;
   slot = option_or s.slot (sought_at a at e);
+  entry = cond (is_some s.slot) s.entry (cond (is_sought a e) e s.entry);
 }
 
 -- the slots from a place on
@@ -61,6 +61,7 @@ concluded a s count = record {
   legal = (s.legal && eqb count 64) && a.ours;
   taken = s.taken;
   slot = s.slot;
+  entry = s.entry;
 }
 
 unfoldable pub survey : Aim → List Entry → Sight
@@ -68,15 +69,10 @@ survey a slots = concluded a (pass a unseen 0 slots) (length slots)
 
 -- ---- the slot that was found
 
--- its entry; where there is none, an empty one
-abbrev pub entry_in : Option Slot → Entry
-entry_in None = empty
-entry_in (Some p) = p.entry
-
 -- the slots with new contents there; where there is none, as they were
-abbrev pub put_in : Option Slot → Entry → List Entry → List Entry
+abbrev pub put_in : Option ℕ → Entry → List Entry → List Entry
 put_in None x slots = slots
-put_in (Some p) x slots = set slots p.at x
+put_in (Some at) x slots = set slots at x
 
 -- ---- the answer to who asks for an entry, the number of its slot and the entry
 
@@ -84,10 +80,10 @@ abbrev pub shown_at : ℕ → ℕ → Entry → Found
 shown_at n slot e = record { answer = n; slot = slot; entry = e }
 
 -- 3
-abbrev pub shown_in : Option Slot → Found
-shown_in None = shown_at 3 64 empty
-shown_in (Some p) = shown_at 0 p.at p.entry
+abbrev pub shown_in : Option ℕ → Entry → Found
+shown_in None e = shown_at 3 64 empty
+shown_in (Some at) e = shown_at 0 at e
 
 -- 13, then these; past the last slot and an empty entry with a refusal
 unfoldable pub shown : Sight → Found
-shown s = cond s.legal (shown_in s.slot) (shown_at 13 64 empty)
+shown s = cond s.legal (shown_in s.slot s.entry) (shown_at 13 64 empty)

@@ -1,5 +1,6 @@
 // What a call asks, and whom it is about.
 ghost use Rattle.std.specs.Prelude.{◌≡◌};
+ghost use Rattle.calls.specs.Refusal.{number};
 ghost use Rattle.sight.specs.Aim as aims;
 
 use calls::Refusal;
@@ -19,7 +20,7 @@ pub enum Act {
 }
 
 // Our identity and the partner's, filled with blanks: ours and whether it is well-formed, the partner's where it is; whether a
-// free slot is sought; what a text is refused for before its partner is looked up; the room that is asked for.
+// free slot is sought; the answer that a text gets before its partner is looked up, or 0; the room that is asked for.
 #[derive(Clone, Copy)]
 pub struct Aim {
     pub own: Name,
@@ -27,7 +28,8 @@ pub struct Aim {
     pub ours: bool,
     pub partner: Option<Name>,
     pub vacant: bool,
-    pub refused: Option<Refusal>,
+    // A number, not a Refusal: `turn::refusal` gives it back, whatever it is.
+    pub answer: u32,
     pub room: usize,
 }
 
@@ -52,7 +54,7 @@ impl Aim {
             ours: octets::is_name(own),
             partner: None,
             vacant: false,
-            refused: None,
+            answer: 0,
             room: 0,
         }
     }
@@ -79,10 +81,10 @@ impl Aim {
 
     // Nobody: the text is refused.
     fn refused(own: &[u8], refusal: Refusal) -> Aim
-        ensures { result ≡ aims.refused own.now refusal }
+        ensures { result ≡ aims.refused own.now (number refusal) }
     {
         Aim {
-            refused: Some(refusal),
+            answer: refusal.number(),
             ..Aim::ours(own)
         }
     }

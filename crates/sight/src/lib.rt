@@ -13,19 +13,15 @@ use aims::Aim;
 use calls::Refusal;
 use partner::{Entry, Name};
 
-// A slot: its place and its entry.
-#[derive(Clone, Copy)]
-pub struct Slot {
-    pub at: usize,
-    pub entry: Entry,
-}
-
-// Whether the row is legal, whether the partner is in it, and the slot that is sought.
+// Whether the row is legal, whether the partner is in it, the number of the slot that is sought, where there is one, and its
+// entry.
 #[derive(Clone, Copy)]
 pub struct Sight {
     pub legal: bool,
     pub taken: bool,
-    pub slot: Option<Slot>,
+    pub slot: Option<usize>,
+    // Beside the number, not with it: `turn::take` gives an entry back with every refusal, also where no slot is there.
+    pub entry: Entry,
 }
 
 // The part of it that the order of answers asks for.
@@ -123,6 +119,7 @@ impl Sight {
             legal: true,
             taken: false,
             slot: None,
+            entry: partner::empty(),
         }
     }
 
@@ -134,7 +131,8 @@ impl Sight {
         self.legal = self.legal && aim.slot_legal(e, apart);
         self.taken = self.taken || aim.is_theirs(e);
         if self.slot.is_none() && aim.is_sought(e) {
-            self.slot = Some(Slot { at, entry: *e });
+            self.slot = Some(at);
+            self.entry = *e;
         }
     }
 
@@ -157,8 +155,8 @@ impl Sight {
         match self.slot {
             Some(slot) => Found {
                 answer: 0,
-                slot: slot.at,
-                entry: slot.entry,
+                slot,
+                entry: self.entry,
             },
             None => not_shown(Refusal::NoPartner),
         }

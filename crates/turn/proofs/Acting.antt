@@ -11,7 +11,6 @@ use Rattle.outcome.specs.Report.{replied}
 use Rattle.sight.specs.declared.aims.Act.{Act}
 use Rattle.sight.specs.declared.aims.Aim.{Aim}
 use Rattle.sight.specs.declared.Sight.{Sight}
-use Rattle.sight.specs.Sight.{entry_in}
 use Rattle.turn.specs.Way.{refusal, turn, take}
 
 pub no_reply : (e : Entry) (l : Text) → replied (give_up e).outcome l ≡ l
@@ -20,15 +19,15 @@ no_reply e l = by_case (λ (t : Turn). replied t.outcome l ≡ l) _ _ _ (λ _. r
 
 module _ (own : Text) (a : Aim) (s : Sight) (q : Act) (text : Text) (room n : ℕ) (e : n ≡ refusal a s q text room) where
   abbrev went : Turn
-  went = turn own a.partner (entry_in s.slot) q text room
+  went = turn own a.partner s.entry q text room
 
   -- by its refusal
-  by_number : take own a s q text room ≡ cond (eqb n 0) went (refused (entry_in s.slot) n)
+  by_number : take own a s q text room ≡ cond (eqb n 0) went (refused s.entry n)
   unfolding take
-  by_number = sym (ap (λ (m : ℕ). cond (eqb m 0) went (refused (entry_in s.slot) m)) e)
+  by_number = sym (ap (λ (m : ℕ). cond (eqb m 0) went (refused s.entry m)) e)
 
-  pub way_refused : (n ≡ 0 → ⊥) → take own a s q text room ≡ refused (entry_in s.slot) n
-  way_refused h = by_number ∙ ap (λ (b : Bool). cond b went (refused (entry_in s.slot) n)) (ne_eqb n 0 h)
+  pub way_refused : (n ≡ 0 → ⊥) → take own a s q text room ≡ refused s.entry n
+  way_refused h = by_number ∙ ap (λ (b : Bool). cond b went (refused s.entry n)) (ne_eqb n 0 h)
 
   pub way_turned : n ≡ 0 → take own a s q text room ≡ went
-  way_turned h = by_number ∙ ap (λ (b : Bool). cond b went (refused (entry_in s.slot) n)) (eq-eqb n 0 h)
+  way_turned h = by_number ∙ ap (λ (b : Bool). cond b went (refused s.entry n)) (eq-eqb n 0 h)

@@ -1,17 +1,15 @@
 -- The order of a call's answers, test by test.
-use Rattle.std.proofs.Common.{◌≡◌, sym, ap, ◌∙◌, Bool, true, false, not, [], ◌∷◌, ◌++◌, ℕ, arith}
-use Rattle.std.specs.Prelude.{ltb, Option, None, Some}
+use Rattle.std.proofs.Common.{◌≡◌, sym, ap, ◌∙◌, Bool, true, false, not, [], ◌∷◌, ℕ, arith}
+use Rattle.std.specs.Prelude.{ltb}
+use borrow.Author.Tests.{ne_eqb}
 use Rattle.octets.specs.Text.{Text}
 use Rattle.octets.specs.First.{first}
 use Rattle.octets.proofs.Firsts.{stays}
-use Rattle.calls.specs.declared.Refusal.{Refusal}
-use Rattle.calls.specs.Refusal.{number}
-use Rattle.calls.proofs.Numbered.{number_not_0}
 use Rattle.sight.specs.declared.aims.Act.{Act}
 use Rattle.sight.specs.declared.aims.Aim.{Aim}
 use Rattle.sight.specs.declared.Sight.{Sight}
 use Rattle.sight.specs.declared.Glance.{Glance}
-use Rattle.turn.specs.Way.{unfit, of_text, looking_up, loading, by_act, glance, refusal}
+use Rattle.turn.specs.Way.{unfit, looking_up, loading, by_act, glance, refusal}
 
 module _ (a : Aim) (s : Sight) (q : Act) (text : Text) (room : ℕ) where
   pub gives_13 : s.legal ≡ false → 13 ≡ refusal a s q text room
@@ -34,16 +32,16 @@ module _ (a : Aim) (s : Sight) (q : Act) (text : Text) (room : ℕ) where
     pub gives_further : ltb room a.room ≡ false → first (by_act q a (glance s) text) ≡ refusal a s q text room
     gives_further h = sym (ap (λ (b : Bool). first ((b, 6) ∷ by_act q a (glance s) text)) h) ∙ after_13
 
--- 1 or 2 of a text, then 3
-pub looks_refused : (a : Aim) (g : Glance) (r : Refusal) → a.refused ≡ Some r → number r ≡ first (looking_up a g)
-looks_refused a g r h =
-    sym (ap (λ (o : Option Refusal). first (of_text o ++ ((not g.there, 3) ∷ []))) h
-    ∙ stays (number r) ((not g.there, 3) ∷ []) (number_not_0 r))
+-- the answer of a text, then 3
+pub looks_refused : (a : Aim) (g : Glance) → (a.answer ≡ 0 → ⊥) → a.answer ≡ first (looking_up a g)
+looks_refused a g h =
+    sym (ap (λ (b : Bool). first ((not b, a.answer) ∷ (not g.there, 3) ∷ [])) (ne_eqb a.answer 0 h)
+    ∙ stays a.answer ((not g.there, 3) ∷ []) h)
 
-pub looks_3 : (a : Aim) (g : Glance) → a.refused ≡ None → g.there ≡ false → 3 ≡ first (looking_up a g)
+pub looks_3 : (a : Aim) (g : Glance) → a.answer ≡ 0 → g.there ≡ false → 3 ≡ first (looking_up a g)
 looks_3 a g h t = sym (rw (h, t))
 
-pub looks_0 : (a : Aim) (g : Glance) → a.refused ≡ None → g.there ≡ true → 0 ≡ first (looking_up a g)
+pub looks_0 : (a : Aim) (g : Glance) → a.answer ≡ 0 → g.there ≡ true → 0 ≡ first (looking_up a g)
 looks_0 a g h t = sym (rw (h, t))
 
 -- 10, 12, 11, 9

@@ -28,7 +28,6 @@ use Rattle.sight.specs.declared.aims.Act.{Act}
 use Rattle.sight.specs.declared.aims.Act.TheVariants.{Receive}
 use Rattle.sight.specs.declared.aims.Aim.{Aim}
 use Rattle.sight.specs.declared.Sight.{Sight}
-use Rattle.calls.specs.declared.Refusal.TheVariants.{NoMessage, ForAnother}
 use Rattle.sight.specs.Aim.{identity, at_partner, refused as nobody, of_reading, with_room}
 use Rattle.sight.specs.Sight.{is_sought, put_in}
 use Rattle.sight.specs.Table.{table}
@@ -71,7 +70,7 @@ module _ (own : Text) (slots : List Entry) where
 
       -- at the partner's entry: 3, else its turn
       module _ (named : is_name own ≡ true) (lawful : legal t ≡ true) (id : Text) (f : Entry → Turn)
-          (v : a.vacant ≡ false) (p : a.partner ≡ identity id) (n : a.refused ≡ None)
+          (v : a.vacant ≡ false) (p : a.partner ≡ identity id) (n : a.answer ≡ 0)
           (o : by_act q a (glance s) text ≡ looking_up a (glance s)) (roomy : ltb room a.room ≡ false)
           (turning : (e : Entry) → partner.legal e ≡ true → turn own a.partner e q text room ≡ f e) where
         looks : orders.first (looking_up a (glance s)) ≡ refusal a s q text room
@@ -127,9 +126,9 @@ module _ (own : Text) (slots : List Entry) where
         → Ends s (take own (with_room (of_reading own o) 256) s Receive text room) (every.receiving t text o)
     unfolding every.receiving of_reading turn turns.receive turns.receive_read
     receiving s text room l h None e z =
-        let a = with_room (nobody own NoMessage) 256 in
+        let a = with_room (nobody own 1) 256 in
         refuses a s z Receive text room 1
-        (looks_refused a (glance s) NoMessage refl ∙ gives_further a s Receive text room l h) (λ z. absurd (omega arith))
+        (looks_refused a (glance s) (λ z. absurd (omega arith)) ∙ gives_further a s Receive text room l h) (λ z. absurd (omega arith))
     receiving s text room l h (Some r) e z = by_rcv (same r.rcv own) refl z
       where
         w : Entry → Turn
@@ -149,20 +148,20 @@ module _ (own : Text) (slots : List Entry) where
         rest = in_case not (same r.rcv (bare t.own)) then refuse t 2 else every.at_partner t r.org w
 
         by_rcv : (b : Bool) → same r.rcv own ≡ b
-            → Sees own slots (with_room (cond (not (same r.rcv own)) (nobody own ForAnother) (at_partner own r.org)) 256) s
-            → Ends s (take own (with_room (cond (not (same r.rcv own)) (nobody own ForAnother) (at_partner own r.org)) 256) s Receive text room) rest
+            → Sees own slots (with_room (cond (not (same r.rcv own)) (nobody own 2) (at_partner own r.org)) 256) s
+            → Ends s (take own (with_room (cond (not (same r.rcv own)) (nobody own 2) (at_partner own r.org)) 256) s Receive text room) rest
         by_rcv false k =
-            let a = with_room (nobody own ForAnother) 256 in
-            subst (λ (b : Bool). Sees own slots (with_room (cond (not b) (nobody own ForAnother) (at_partner own r.org)) 256) s
-            → Ends s (take own (with_room (cond (not b) (nobody own ForAnother) (at_partner own r.org)) 256) s Receive text room) rest)
+            let a = with_room (nobody own 2) 256 in
+            subst (λ (b : Bool). Sees own slots (with_room (cond (not b) (nobody own 2) (at_partner own r.org)) 256) s
+            → Ends s (take own (with_room (cond (not b) (nobody own 2) (at_partner own r.org)) 256) s Receive text room) rest)
             (sym k) (λ z.
             subst (Ends s (take own a s Receive text room)) (sym (if_true (not (same r.rcv (bare t.own))) _ _ (ap not (known ∙ k))))
             (refuses a s z Receive text room 2
-            (looks_refused a (glance s) ForAnother refl ∙ gives_further a s Receive text room l h) (λ z. absurd (omega arith))))
+            (looks_refused a (glance s) (λ z. absurd (omega arith)) ∙ gives_further a s Receive text room l h) (λ z. absurd (omega arith))))
         by_rcv true k =
             let a = with_room (at_partner own r.org) 256 in
-            subst (λ (b : Bool). Sees own slots (with_room (cond (not b) (nobody own ForAnother) (at_partner own r.org)) 256) s
-            → Ends s (take own (with_room (cond (not b) (nobody own ForAnother) (at_partner own r.org)) 256) s Receive text room) rest)
+            subst (λ (b : Bool). Sees own slots (with_room (cond (not b) (nobody own 2) (at_partner own r.org)) 256) s
+            → Ends s (take own (with_room (cond (not b) (nobody own 2) (at_partner own r.org)) 256) s Receive text room) rest)
             (sym k) (λ z.
             subst (Ends s (take own a s Receive text room)) (sym (if_false (not (same r.rcv (bare t.own))) _ _ (ap not (known ∙ k))))
             (at_entry a s z Receive text room l named lawful r.org w refl refl refl refl h turning))

@@ -29,7 +29,7 @@ use Rattle.sight.specs.declared.aims.Aim.{Aim}
 use Rattle.sight.specs.declared.Sight.{Sight}
 use Rattle.sight.specs.declared.Glance.{Glance}
 use Rattle.sight.specs.Aim.{identity, at_free_slot}
-use Rattle.sight.specs.Sight.{is_theirs, is_sought, entry_in, put_in}
+use Rattle.sight.specs.Sight.{is_theirs, is_sought, put_in}
 use Rattle.sight.proofs.Finding.{is_of_name, none_free, one_free}
 use Rattle.sight.proofs.Sees.{any_theirs, Sees}
 use Rattle.turn.specs.Way.{is_own, load, unfit, loading, glance, refusal, turn, take}
@@ -128,7 +128,7 @@ module _ (own : Text) (slots : List Entry) (s : Sight) (id name : Text) (top : T
     placed (Some f) h =
         let k = z.found l f h in
         let d = way_turned own a s asks name room 0 (loads_0 a (glance s) (is_name name) (odd_top top) u n o k.0 ∙ order) refl
-        ∙ ap (λ (i : Option Name). load i (entry_in s.slot) name top) (fit_named own id (glance s) u) in
+        ∙ ap (λ (i : Option Name). load i s.entry name top) (fit_named own id (glance s) u) in
         subst (λ (p : Option (List Entry)). Loads (every.after_load (t own slots) p)) (sym (one_free x slots f h))
         (ap (λ (r : Turn). r.outcome) d, ap (λ (r : Turn). put_in s.slot r.entry slots) d ∙ k.2 x)
 

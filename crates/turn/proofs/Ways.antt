@@ -25,7 +25,7 @@ use Rattle.sight.specs.declared.aims.Act.TheVariants.{Receive, BuildKsm, BuildRs
 use Rattle.sight.specs.declared.aims.Aim.{Aim}
 use Rattle.sight.specs.declared.Sight.{Sight}
 use Rattle.sight.specs.declared.Glance.{Glance}
-use Rattle.sight.specs.Sight.{entry_in, put_in}
+use Rattle.sight.specs.Sight.{put_in}
 use Rattle.sight.specs.Aim.{with_room, aim_of}
 use Rattle.sight.specs.Asked.{call_of}
 use Rattle.request.specs.Request.{request_in}
@@ -122,14 +122,14 @@ abbrev taking : Text → Option Name → Entry → Act → Text → ℕ → ℕ 
 taking own id e q text room n = cond (eqb n 0) (turn own id e q text room) (refused e n)
 
 take_by : (own : Text) (a : Aim) (s : Sight) (q : Act) (text : Text) (room : ℕ)
-    → take own a s q text room ≡ taking own a.partner (entry_in s.slot) q text room (refusal a s q text room)
+    → take own a s q text room ≡ taking own a.partner s.entry q text room (refusal a s q text room)
 unfolding take
 take_by own a s q text room = refl
 
 -- with another room asked for only test 6 changes
 pub way_roomed : (own : Text) (a : Aim) (s : Sight) (q : Act) (text : Text) (asks room : ℕ)
     → take own (with_room a asks) s q text room
-    ≡ cond (not s.legal) (refused (entry_in s.slot) 13) (cond (ltb room asks) (refused (entry_in s.slot) 6) (take own (with_room a 0) s q text room))
+    ≡ cond (not s.legal) (refused s.entry 13) (cond (ltb room asks) (refused s.entry 6) (take own (with_room a 0) s q text room))
 way_roomed own a s q text asks room = by_legal s.legal refl
   where
     b : Aim
@@ -137,7 +137,7 @@ way_roomed own a s q text asks room = by_legal s.legal refl
 
     Goal : Bool → Bool → Type 0
     Goal l r = take own b s q text room
-        ≡ cond (not l) (refused (entry_in s.slot) 13) (cond r (refused (entry_in s.slot) 6) (take own (with_room a 0) s q text room))
+        ≡ cond (not l) (refused s.entry 13) (cond r (refused s.entry 6) (take own (with_room a 0) s q text room))
 
     refuses_same : s.legal ≡ true → ltb room asks ≡ false → refusal b s q text room ≡ refusal (with_room a 0) s q text room
     refuses_same l h =
@@ -145,7 +145,7 @@ way_roomed own a s q text asks room = by_legal s.legal refl
         ∙ gives_further (with_room a 0) s q text room l (roomless room)
 
     same_way : s.legal ≡ true → ltb room asks ≡ false → take own b s q text room ≡ take own (with_room a 0) s q text room
-    same_way l h = take_by own b s q text room ∙ ap (taking own a.partner (entry_in s.slot) q text room) (refuses_same l h) ∙ sym (take_by own (with_room a 0) s q text room)
+    same_way l h = take_by own b s q text room ∙ ap (taking own a.partner s.entry q text room) (refuses_same l h) ∙ sym (take_by own (with_room a 0) s q text room)
 
     by_room : s.legal ≡ true → (r : Bool) → ltb room asks ≡ r → Goal true r
     by_room l true h = way_refused own b s q text room 6 (gives_6 b s q text room l h) (λ z. absurd (omega arith))
@@ -153,7 +153,7 @@ way_roomed own a s q text asks room = by_legal s.legal refl
 
     by_legal : (l : Bool) → s.legal ≡ l
         → take own b s q text room
-        ≡ cond (not s.legal) (refused (entry_in s.slot) 13) (cond (ltb room asks) (refused (entry_in s.slot) 6) (take own (with_room a 0) s q text room))
+        ≡ cond (not s.legal) (refused s.entry 13) (cond (ltb room asks) (refused s.entry 6) (take own (with_room a 0) s q text room))
     by_legal true l = subst (λ (x : Bool). Goal x (ltb room asks)) (sym l) (by_room l (ltb room asks) refl)
     by_legal false l =
         subst (λ (x : Bool). Goal x (ltb room asks)) (sym l)

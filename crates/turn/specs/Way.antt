@@ -1,5 +1,5 @@
 -- The way of a call over what is seen of a table: the order of its answers, and the turn of one entry.
-use Rattle.std.specs.Prelude.{Bool, true, false, not, cond, ◌||◌, [], ◌∷◌, ◌++◌, ℕ, eqb, ltb, Option, None, Some, is_some}
+use Rattle.std.specs.Prelude.{Bool, false, not, cond, ◌||◌, [], ◌∷◌, ℕ, eqb, ltb, Option, None, Some, is_some}
 use Rattle.octets.specs.Text.{Text, same, is_name}
 use Rattle.octets.specs.First.{Order, first}
 use Rattle.keying.specs.declared.Top.{Top}
@@ -8,8 +8,6 @@ use Rattle.partner.specs.declared.Name.{Name}
 use Rattle.partner.specs.declared.Entry.{Entry}
 use Rattle.partner.specs.Entry.{name_of}
 use Rattle.partner.specs.Changes.{loaded}
-use Rattle.calls.specs.declared.Refusal.{Refusal}
-use Rattle.calls.specs.Refusal.{number}
 use Rattle.calls.specs.Outcome.{Turn, nothing, refused, done}
 use Rattle.calls.specs.Build.{give_up}
 use Rattle.calls.specs.Calls.{emptied, unturned}
@@ -19,7 +17,6 @@ use Rattle.sight.specs.declared.aims.Act.TheVariants.{Receive, BuildKsm, BuildRs
 use Rattle.sight.specs.declared.aims.Aim.{Aim}
 use Rattle.sight.specs.declared.Sight.{Sight}
 use Rattle.sight.specs.declared.Glance.{Glance}
-use Rattle.sight.specs.Sight.{entry_in}
 use Rattle.request.specs.Request.{request_in}
 
 -- ---- the order of the answers
@@ -37,14 +34,9 @@ unfit a g = not (is_some a.partner) || (g.taken || is_own a.own a.partner)
 abbrev pub loading : Aim → Glance → Bool → Bool → Order
 loading a g named odd = (unfit a g, 10) ∷ (not named, 12) ∷ (not odd, 11) ∷ (not g.there, 9) ∷ []
 
--- of a text that is refused: 1 or 2
-abbrev pub of_text : Option Refusal → Order
-of_text None = []
-of_text (Some r) = (true, number r) ∷ []
-
 -- of a call about an entry that is there: 1 or 2 of a text, then 3
 abbrev pub looking_up : Aim → Glance → Order
-looking_up a g = of_text a.refused ++ ((not g.there, 3) ∷ [])
+looking_up a g = (not (eqb a.answer 0), a.answer) ∷ (not g.there, 3) ∷ []
 
 abbrev pub by_act : Act → Aim → Glance → Text → Order
 by_act Receive a g text = looking_up a g
@@ -88,5 +80,5 @@ turn own id e (Load top) text room = load id e text top
 -- a refusal, the entry as it was, or its turn
 unfoldable pub take : Text → Aim → Sight → Act → Text → ℕ → Turn
 take own a s q text room =
-    cond (eqb (refusal a s q text room) 0) (turn own a.partner (entry_in s.slot) q text room)
-    (refused (entry_in s.slot) (refusal a s q text room))
+    cond (eqb (refusal a s q text room) 0) (turn own a.partner s.entry q text room)
+    (refused s.entry (refusal a s q text room))

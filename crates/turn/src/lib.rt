@@ -4,13 +4,11 @@
 ghost use Rattle.std.specs.Prelude.{◌≡◌, [], length};
 ghost use Rattle.octets.specs.First.{first};
 ghost use Rattle.calls.specs.Outcome as calls;
-ghost use Rattle.calls.specs.Refusal.{answer_of};
 ghost use Rattle.outcome.specs.Report as report;
-ghost use Rattle.sight.specs.Sight.{entry_in};
 ghost use Rattle.turn.specs.Way as way;
 
 use calls::Refusal;
-use outcome::{Given, Told, Turned};
+use outcome::{Given, Report, Told, Turned};
 use partner::{Entry, Name};
 use sight::aims::{Act, Aim};
 use sight::{Glance, Sight};
@@ -36,46 +34,47 @@ fn unfit(aim: &Aim, glance: Glance) -> bool
 }
 
 // Of a load: 10, 12, 11, 9.
-fn loading(aim: &Aim, glance: Glance, named: bool, odd: bool) -> Result<(), Refusal>
-    ensures { answer_of result ≡ first (way.loading aim.now glance named odd) }
+fn loading(aim: &Aim, glance: Glance, named: bool, odd: bool) -> u32
+    ensures { result ≡ first (way.loading aim.now glance named odd) }
 {
     if unfit(aim, glance) {
-        return Err(Refusal::BadIdentity);
+        return Refusal::BadIdentity.number();
     }
     if !named {
-        return Err(Refusal::Malformed);
+        return Refusal::Malformed.number();
     }
     if !odd {
-        return Err(Refusal::EvenKey);
+        return Refusal::EvenKey.number();
     }
     if !glance.there {
-        return Err(Refusal::TableFull);
+        return Refusal::TableFull.number();
     }
-    Ok(())
+    0
 }
 
 // Of a call about an entry that is there: 1 or 2 of a text, then 3.
-fn looking_up(aim: &Aim, glance: Glance) -> Result<(), Refusal>
-    ensures { answer_of result ≡ first (way.looking_up aim.now glance) }
+fn looking_up(aim: &Aim, glance: Glance) -> u32
+    ensures { result ≡ first (way.looking_up aim.now glance) }
 {
-    if let Some(refusal) = aim.refused {
-        return Err(refusal);
+    if aim.answer != 0 {
+        return aim.answer;
     }
     if !glance.there {
-        return Err(Refusal::NoPartner);
+        return Refusal::NoPartner.number();
     }
-    Ok(())
+    0
 }
 
-// The refusal that comes before the turn: 13, 6, then by what is asked.
-pub fn refusal(aim: &Aim, glance: Glance, act: Act, text: &[u8], room: usize) -> Result<(), Refusal>
-    ensures { answer_of result ≡ first (way.order aim.now glance act text.now room) }
+// The refusal that comes before the turn, or 0: 13, 6, then by what is asked.
+// A number, not a Refusal: the answer that the aim has for a text is given back, whatever number it is.
+pub fn refusal(aim: &Aim, glance: Glance, act: Act, text: &[u8], room: usize) -> u32
+    ensures { result ≡ first (way.order aim.now glance act text.now room) }
 {
     if !glance.legal {
-        return Err(Refusal::Illegal);
+        return Refusal::Illegal.number();
     }
     if room < aim.room {
-        return Err(Refusal::NoRoom);
+        return Refusal::NoRoom.number();
     }
     match act {
         Act::Load(top) => loading(aim, glance, octets::is_name(text), sealing::odd_top(top)),
@@ -128,7 +127,7 @@ pub fn turn(
     }
 }
 
-// A call over what is seen: a refusal, the entry as it was, or its turn.
+// A call over what is seen: the entry as it was, with a refusal, or its turn; and the report.
 #[tactic(auto, unfolding(crate::specs::Way::take, crate::specs::Way::refusal, outcome::specs::Report::turned, outcome::specs::Report::report, outcome::specs::Report::replied))]
 pub fn take(
     own: &[u8],
@@ -137,8 +136,9 @@ pub fn take(
     act: Act,
     text: &[u8],
     reply: &mut [u8],
-) -> Result<Turned, Refusal>
-    ensures value { report.turned_of (entry_in seen.now.slot) result ≡ report.turned (way.take own.now aim.now seen.now act text.now (length reply.old)) }
+) -> (Entry, Report)
+    ensures entry { result.0 ≡ (way.take own.now aim.now seen.now act text.now (length reply.old)).entry }
+    ensures value { result.1 ≡ report.report (way.take own.now aim.now seen.now act text.now (length reply.old)).outcome }
     ensures reply_after { reply.new ≡ report.replied (way.take own.now aim.now seen.now act text.now (length reply.old)).outcome reply.old }
 {
     let glance = Glance {
@@ -146,9 +146,12 @@ pub fn take(
         taken: seen.taken,
         there: seen.slot.is_some(),
     };
-    refusal(aim, glance, act, text, reply.len())?;
-    let Some(slot) = &seen.slot else {
-        return Err(Refusal::NoPartner);
-    };
-    turn(own, aim.partner, &slot.entry, act, text, reply)
+    let answer = refusal(aim, glance, act, text, reply.len());
+    if answer != 0 {
+        return (seen.entry, outcome::refusal(answer));
+    }
+    match turn(own, aim.partner, &seen.entry, act, text, reply) {
+        Ok(turned) => (turned.entry, outcome::report_of(Ok(turned.given))),
+        Err(refused) => (seen.entry, outcome::report_of(Err(refused))),
+    }
 }

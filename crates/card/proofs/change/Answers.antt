@@ -8,7 +8,11 @@ use Rattle.outcome.specs.declared.Given.{Given}
 use Rattle.outcome.specs.Report.{report_of}
 use Rattle.card.specs.Ways.{Changed}
 use Rattle.card.proofs.Ends.{changed_kept, changed_refused, changed_went}
+use Rattle.card.proofs.Listed.{asks_listed}
 use Rattle.card.proofs.change.Goals as goal
+
+pub find-requires : goal.find-requires
+find-requires c = asks_listed c.args.act c.args.image.now c.args.who.now c.args.text.now _ c.aim-aim.ensures
 
 pub returns-in_err-slot : goal.returns-in_err-slot
 returns-in_err-slot c =

@@ -25,7 +25,11 @@ use Rattle.card.specs.Ways.{aim, told, place, top_or_zero, top_of, name_or_none,
 use Rattle.card.proofs.Delivering.{delivered_so}
 use Rattle.card.proofs.Roomed.{load_all, load_so}
 use Rattle.card.proofs.Ends.{refused_end, refused_load, way_loads, aimed_as, found_as}
+use Rattle.card.proofs.Listed.{roomy_listed}
 use Rattle.card.proofs.loaded.Goals as goal
+
+pub find-requires : goal.find-requires
+find-requires c = roomy_listed _ c.args.image.now c.args.partner.now _ _ c.aim.ensures _ _ c.with_room-aim.ensures
 
 pub returns-in_err-slot : goal.returns-in_err-slot
 unfolding top_of name_with

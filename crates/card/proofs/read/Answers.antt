@@ -9,7 +9,11 @@ use Rattle.outcome.specs.declared.Turned.{Turned}
 use Rattle.outcome.specs.Report.{report_of, turned_of}
 use Rattle.card.specs.Ways.{Turns}
 use Rattle.card.proofs.Ends.{turns_kept, turns_went}
+use Rattle.card.proofs.Listed.{asks_listed}
 use Rattle.card.proofs.read.Goals as goal
+
+pub find-requires : goal.find-requires
+find-requires c = asks_listed c.args.act c.args.image.now c.args.who.now c.args.text.now _ c.aim-aim.ensures
 
 pub returns-in_err-slot : goal.returns-in_err-slot
 returns-in_err-slot c =

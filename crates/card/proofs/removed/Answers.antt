@@ -20,7 +20,11 @@ use Rattle.card.specs.Ways.{aim, told}
 use Rattle.card.proofs.Delivering.{delivered_so}
 use Rattle.card.proofs.Roomed.{remove_all, remove_so}
 use Rattle.card.proofs.Ends.{refused_end, way_went, found_as}
+use Rattle.card.proofs.Listed.{roomy_listed}
 use Rattle.card.proofs.removed.Goals as goal
+
+pub find-requires : goal.find-requires
+find-requires c = roomy_listed _ c.args.image.now c.args.partner.now _ _ c.aim.ensures _ _ c.with_room-aim.ensures
 
 pub returns-in_err-slot : goal.returns-in_err-slot
 returns-in_err-slot c =

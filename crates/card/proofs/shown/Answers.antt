@@ -20,7 +20,11 @@ use Rattle.card.specs.Ways.{aim, told}
 use Rattle.card.proofs.Delivering.{put_so}
 use Rattle.card.proofs.Roomed.{ask_all, ask_long, was_roomy}
 use Rattle.card.proofs.Ends.{refused_end, way_went, entry_is, found_as}
+use Rattle.card.proofs.Listed.{roomy_listed}
 use Rattle.card.proofs.shown.Goals as goal
+
+pub find-requires : goal.find-requires
+find-requires c = roomy_listed _ c.args.image.now c.args.partner.now _ _ c.aim.ensures _ _ c.with_room-aim.ensures
 
 pub returns-in_err-slot : goal.returns-in_err-slot
 returns-in_err-slot c =
