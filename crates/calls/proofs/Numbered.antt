@@ -1,12 +1,12 @@
 -- A refusal is known by its number, and none is 0 or 4.
 use Rattle.std.proofs.Common.{◌≡◌, refl, sym, ap, ◌∙◌, Bool, true, false, cond, List, [], ◌∷◌, ℕ, arith}
-use Rattle.std.specs.Prelude.{Some, eqb}
+use Rattle.std.specs.Prelude.{⊤, Result, Some, eqb}
 use Rattle.std.specs.List.{find}
 use borrow.Author.Tests.{eqb-true}
 use Rattle.calls.specs.declared.Refusal.{Refusal}
 use Rattle.calls.specs.declared.Refusal.TheVariants.{NoMessage, ForAnother, NoPartner, NothingWaiting, NoRoom, AlreadyWaiting}
 use Rattle.calls.specs.declared.Refusal.TheVariants.{CountUsedUp, TableFull, BadIdentity, EvenKey, Malformed, Illegal}
-use Rattle.calls.specs.Refusal.{number, every, numbered}
+use Rattle.calls.specs.Refusal.{number, answer_of, every, numbered}
 
 pub one_number : (r s : Refusal) → number r ≡ number s → r ≡ s
 one_number r s p = grind arith
@@ -16,6 +16,10 @@ number_not_0 r p = grind arith
 
 pub number_not_4 : (r : Refusal) → number r ≡ 4 → ⊥
 number_not_4 r p = grind arith
+
+-- of a call that tests and does no more, the answer says all
+pub one_answer : (x y : Result ⊤ Refusal) → answer_of x ≡ answer_of y → x ≡ y
+one_answer x y p = grind (arith, number_not_0, one_number)
 
 -- a refusal that is found is one of which the test holds
 found_holds : (f : Refusal → Bool) (l : List Refusal) (r : Refusal) → find f l ≡ Some r → f r ≡ true

@@ -1,6 +1,6 @@
 -- Of each public function: any two outcomes that its contract allows are equal.
 use mathlib.Core.Path.{refl}
-use Rattle.octets.specs.One.{OneOutcome}
+use Rattle.octets.specs.One.{OneOutcome, OneSeen}
 use Rattle.octets.proofs.Alike.{alike}
 use Rattle.fields.specs.contracts as contract
 use Rattle.fields.proofs as fn
@@ -31,3 +31,6 @@ block κs a x y v w p q = (alike p q, refl)
 
 pub service : OneOutcome contract.words.service.ended fn.words.service.Reads.Post
 service κs a x y v w p q = (alike p q, refl)
+
+pub name : OneSeen contract.Class.name.ended (λ κs. (λ x. x.now)) fn.Class.name.Reads.Post
+name κs a x y v w p q = (alike p q, refl)

@@ -5,7 +5,7 @@ ghost use Rattle.std.specs.Prelude.{◌≡◌, drop, option_map};
 ghost use Rattle.octets.specs.Text.{blank, is_run};
 ghost use Rattle.csm.specs.Format.{plain, upto, pre};
 ghost use Rattle.csm.specs.Fields.{count, check, hex, half_digits, svr, erf, kd, field, tag as tag_of, SVR, ERF, KD, MCL};
-ghost use Rattle.fields.specs.Seen.{taken, itself, check_text, field_at, as_part, as_number, as_key, name_at, class_of};
+ghost use Rattle.fields.specs.Seen.{taken, itself, check_text, field_at, as_part, as_number, as_key, name_at, class_of, class_name};
 ghost use Rattle.fields.specs.Steps as steps;
 
 mod keys;
@@ -51,6 +51,24 @@ pub enum Class {
     Ers,
     Rfs,
     Rtr,
+}
+
+impl Class {
+    // Its name, as MCL has it.
+    pub fn name(&self) -> &str
+        ensures { result.now ≡ class_name self.now }
+    {
+        match self {
+            Class::Rsi => "RSI",
+            Class::Ksm => "KSM",
+            Class::Rsm => "RSM",
+            Class::Esm => "ESM",
+            Class::Dsm => "DSM",
+            Class::Ers => "ERS",
+            Class::Rfs => "RFS",
+            Class::Rtr => "RTR",
+        }
+    }
 }
 
 // A field with that tag at `at`, if `read` takes its contents for something.

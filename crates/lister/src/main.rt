@@ -3,7 +3,6 @@
 
 ghost use Rattle.std.specs.Prelude.{◌≡◌, ◌+◌, ◌≤◌, min};
 ghost use Rattle.csm.specs.Message.{read};
-ghost use Rattle.fields.specs.Seen.{class_name};
 ghost use Rattle.lister.specs.Listing.{listed_class, row_of};
 
 use fields::Class;
@@ -20,26 +19,10 @@ pub struct Row {
     pub bytes: Option<usize>,
 }
 
-// The name of a class, as MCL has it.
-fn class_name(class: Class) -> &'static str
-    ensures { result.now ≡ class_name class }
-{
-    match class {
-        Class::Rsi => "RSI",
-        Class::Ksm => "KSM",
-        Class::Rsm => "RSM",
-        Class::Esm => "ESM",
-        Class::Dsm => "DSM",
-        Class::Ers => "ERS",
-        Class::Rfs => "RFS",
-        Class::Rtr => "RTR",
-    }
-}
-
 impl fmt::Display for Row {
     fn fmt<W: fmt::Write>(&self, f: &mut fmt::Formatter<W>) -> fmt::Result {
         match self.class {
-            Some(class) => f.write_str(class_name(class))?,
+            Some(class) => f.write_str(class.name())?,
             None => f.write_str("-")?,
         }
         match self.bytes {
