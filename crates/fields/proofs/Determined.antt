@@ -5,6 +5,9 @@ use Rattle.octets.proofs.Alike.{alike}
 use Rattle.fields.specs.contracts as contract
 use Rattle.fields.proofs as fn
 
+pub name : OneSeen contract.Class.name.ended (λ κs. (λ x. x.now)) fn.Class.name.Reads.Post
+name κs a x y v w p q = (alike p q, refl)
+
 pub run_field : OneOutcome contract.run_field.ended fn.run_field.Reads.Post
 run_field κs a x y v w p q = (alike p q, refl)
 
@@ -31,6 +34,3 @@ block κs a x y v w p q = (alike p q, refl)
 
 pub service : OneOutcome contract.words.service.ended fn.words.service.Reads.Post
 service κs a x y v w p q = (alike p q, refl)
-
-pub name : OneSeen contract.Class.name.ended (λ κs. (λ x. x.now)) fn.Class.name.Reads.Post
-name κs a x y v w p q = (alike p q, refl)
